@@ -1,0 +1,4 @@
+pub mod Bits
+pub mod Ordering
+pub mod Packing
+pub mod Zeros

@@ -1,0 +1,4 @@
+pub mod NameKeys
+pub mod Numbers
+pub mod PairKeys
+pub mod Questions

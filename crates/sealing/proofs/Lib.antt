@@ -1,0 +1,9 @@
+pub mod Answering
+pub mod Comparing
+pub mod Masks
+pub mod Opening
+pub mod Promises
+pub mod SealedOrder
+pub mod TakenIn
+pub mod Unmasking
+pub mod Walking

@@ -1,0 +1,2 @@
+mod LittleEndian
+mod Words
