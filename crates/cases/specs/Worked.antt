@@ -6,7 +6,7 @@ use Prim.Native.Nat.{ℕ, zero, suc}
 use lib.IntN.{negsuc}
 use lib.ListN.{take}
 use Rattle.std.specs.declared.cmp.Ordering.the-variants.{Less, Greater}
-use Rattle.std.specs.declared.result.Result.the-variants.{Ok, Err}
+use Rattle.std.specs.declared.result.Result.the-variants.{Err}
 use Rattle.keys.specs.Numbers.{number-key, raised}
 use Rattle.sealing.specs.declared.records.SealedKey.{SealedKey}
 use Rattle.sealing.specs.Compared.{decided, compared}

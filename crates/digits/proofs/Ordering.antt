@@ -24,11 +24,6 @@ then-assoc Less b c = refl
 then-assoc Equal b c = refl
 then-assoc Greater b c = refl
 
-pub then-equal : (a : Ordering) → thenBy a Equal ≡ a
-then-equal Less = refl
-then-equal Equal = refl
-then-equal Greater = refl
-
 pub reversed-then : (a b : Ordering) → reversed (thenBy a b) ≡ thenBy (reversed a) (reversed b)
 reversed-then Less b = refl
 reversed-then Equal b = refl
@@ -98,10 +93,6 @@ row-order-same (m ∷ ms) [] e = cc
 row-order-same (m ∷ ms) (n ∷ ns) e =
     let both = then-same (number-order m n) (row-order ms ns) e in
     cc (number-order-same m n (both .0), row-order-same ms ns (both .1))
-
-pub row-order-self : (a : List ℕ) → row-order a a ≡ Equal
-row-order-self [] = refl
-row-order-self (n ∷ ns) = ap (λ o. thenBy o (row-order ns ns)) (order-same n n refl) ∙ row-order-self ns
 
 pub row-order-append : (a b c d : List ℕ) → length a ≡ length b → row-order (a ++ c) (b ++ d) ≡ thenBy (row-order a b) (row-order c d)
 row-order-append [] [] c d e = refl

@@ -1,7 +1,7 @@
 -- Zeros at the end of a row of digits add nothing to it, and parts of packed rows.
 use mathlib.Core.Path.{_≡_, refl, sym, ap, _∙_}
 use mathlib.Core.List.{List, [], _∷_, _++_}
-use Prim.Native.Nat.{ℕ, zero, suc, _+_, _-_, _*_, _/_, _%_, _^_, _<_, _≤_}
+use Prim.Native.Nat.{ℕ, zero, suc, _+_, _-_, _*_, _/_, _%_, _^_}
 use native.Mathlib.Nat.{zero-add, suc-add, zero-mul, suc-mul, add-comm, zero-div, zero-mod}
 use native.Mathlib.Omega.{arith}
 use lib.ListN.{length, take, drop, replicate}

@@ -1,23 +1,21 @@
 -- The width of a pair, and what its reads and writes come to.
 use mathlib.Core.Path.{_≡_, refl, sym, ap, _∙_}
 use mathlib.Core.Logic.{⊎-elim}
-use mathlib.Core.Bool.{true, cond, _&&_}
+use mathlib.Core.Bool.{_&&_}
 use mathlib.Core.List.{List, [], _++_, append-assoc}
 use Prim.Native.Nat.{ℕ, _+_, _-_, _≤_}
 use native.Mathlib.Omega.{arith}
 use lib.Dec.{leb}
 use lib.ListN.{length, take, drop}
 use borrow.Rule.Slice.PartMut.{putMid}
-use Rattle.std.proofs.shelf.Tests.{and-parts, and-from, leb-true, le-leb, cases-bool, cond-true, cond-false}
+use Rattle.std.proofs.shelf.Tests.{and-parts, cases-bool, cond-true, cond-false}
 use Rattle.std.proofs.shelf.Lists.{append-nil, length-drop, take-at, drop-at, drop-all, take-rest, take-take, drop-take, drop-drop}
-use Rattle.std.proofs.shelf.Ways.{tells}
 use Rattle.std.specs.declared.option.Option.{Option}
 use Rattle.std.specs.declared.option.Option.the-variants.{Some, None}
-use Rattle.std.specs.declared.result.Result.{Result}
 use Rattle.std.specs.declared.result.Result.the-variants.{Ok, Err}
-use Rattle.keys.specs.Kinds.{served, Served, width-asked, write-answer, written, value-asked, read-answer}
+use Rattle.keys.specs.Kinds.{served, Served, write-answer, written, value-asked, read-answer}
 use Rattle.keys.specs.Pairs.{pair-width, both, pair-decoded}
-use Rattle.keys.proofs.Questions.{served-from-test, test-from-served, asked-within, within-from-asked, written-within}
+use Rattle.keys.proofs.Questions.{served-from-test, asked-within, within-from-asked, written-within}
 
 -- the parts of a pair that is served are served, and its width is their sum
 pub pair-parts : (v w : ℕ) → Served (pair-width v w) → Served v × Served w × (pair-width v w ≡ v + w)

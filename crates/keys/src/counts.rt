@@ -7,7 +7,7 @@ use crate::Refusal;
 use std::cmp::Ordering;
 
 /// A number from 0 to 2^32 - 1.
-#[derive(Clone, Copy, PartialEq, Eq, Debug)]
+#[derive(Clone, Copy, PartialEq, Eq)]
 pub struct Count(pub u32);
 
 pub impl OrderedKey for Count as CountOrdered {

@@ -10,7 +10,7 @@ use crate::Refusal;
 use std::cmp::Ordering;
 
 /// A height in millimetres, below or above zero.
-#[derive(Clone, Copy, PartialEq, Eq, Debug)]
+#[derive(Clone, Copy, PartialEq, Eq)]
 pub struct Level(pub i32);
 
 // How far a level lies above the lowest one, -2^31: a number that rises with the level and is never negative.

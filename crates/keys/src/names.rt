@@ -12,7 +12,7 @@ use crate::are_bytes;
 use std::cmp::Ordering;
 
 /// A name of up to 16 bytes, none of them zero, filled up with zeros.
-#[derive(Clone, Copy, Debug)]
+#[derive(Clone, Copy)]
 pub struct Name {
     bytes: [u8; 16],
     ghost ok: { is-name bytes ≡ true },

@@ -10,7 +10,7 @@ use crate::Refusal;
 use std::cmp::Ordering;
 
 /// Two values as one: the first decides the order, and the second where the firsts are equal.
-#[derive(Clone, Copy, PartialEq, Eq, Debug)]
+#[derive(Clone, Copy)]
 pub struct Pair<A, B> {
     pub first: A,
     pub second: B,

@@ -1,7 +1,5 @@
 //! The commands: what each does, and the line that tells its result.
 
-ghost use mathlib.Core.Path.{_≡_};
-ghost use Rattle.sealing.specs.Sealed.{packed-length};
 use crate::ciphers::Cipher;
 use crate::ciphers::key_of_words;
 use crate::replies::put_number;
@@ -83,7 +81,7 @@ impl Desk {
         put_text(out, "width ")?;
         put_number(out, width)?;
         put_text(out, ", packed ")?;
-        put_number(out, packed_length(width))?;
+        put_number(out, sealing::packed_length(width))?;
         Ok(())
     }
 
@@ -113,13 +111,6 @@ fn compare(
     put_text(out, order)?;
     put_number(out, comparison.place)?;
     Ok(())
-}
-
-// How many packed bytes the sealed keys of a width have.
-fn packed_length(width: u8) -> usize
-    ensures { λ r. ⌜ r ≡ packed-length width ⌝ }
-{
-    (8 * width as usize + 4) / 5
 }
 
 // The line of a result: the head, which never shows a secret, and the result.

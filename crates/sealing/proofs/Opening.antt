@@ -1,30 +1,26 @@
 -- Opening gives back exactly what was sealed.
 use mathlib.Core.Path.{_≡_, refl, sym, ap, _∙_}
-use mathlib.Core.Bool.{Bool, true, false, cond}
+use mathlib.Core.Bool.{Bool, true, false}
 use mathlib.Core.Logic.{⊎-elim}
 use mathlib.Core.List.{List, [], _∷_, _++_, map}
 use Prim.Native.Nat.{ℕ, _+_, _-_, _*_, _%_, _<_, _≤_}
-use native.Mathlib.Nat.{mod-eq-of-lt}
 use native.Mathlib.Omega.{arith}
 use lib.Dec.{eqb, leb, lit<}
 use lib.ListN.{length, take, replicate}
 use mir.Val.{boolByte}
-use Rattle.std.specs.shelf.Lists.{All}
 use Rattle.std.proofs.shelf.Lists.{append-assoc, append-nil, length-take-le, take-at}
 use Rattle.std.proofs.shelf.Tests.{cond-true, cond-false, eq-eqb, ne-eqb, eqb-true, cases-bool}
 use Rattle.std.specs.declared.option.Option.{Option}
 use Rattle.std.specs.declared.option.Option.the-variants.{Some, None}
-use Rattle.std.specs.declared.result.Result.{Result}
-use Rattle.std.specs.declared.result.Result.the-variants.{Ok, Err}
-use Rattle.digits.specs.Positional.{bits, trits, packed}
+use Rattle.std.specs.declared.result.Result.the-variants.{Ok}
+use Rattle.digits.specs.Positional.{bits, trits}
 use Rattle.digits.proofs.Bits.{bits-of-packed, bits-small, bytes-of-bits}
 use Rattle.digits.proofs.Packing.{length-bits, length-packed, length-unpacked, packed-lt}
 use Rattle.keys.specs.Kinds.{Bytes, Served, served, value-asked}
-use Rattle.keys.specs.Refusals.{asked}
 use Rattle.keys.proofs.Questions.{asked-ok, served-from-test}
 use Rattle.sealing.specs.declared.records.SealedKey.{SealedKey}
 use Rattle.sealing.specs.Masking.{masked, packed-trits, unmasked}
-use Rattle.sealing.specs.Sealed.{sealed, take-in-answer, Taken-in}
+use Rattle.sealing.specs.Sealed.{sealed, Taken-in}
 use Rattle.sealing.specs.Opened.{bytes-of, bits-asked, open-answer}
 use Rattle.sealing.proofs.Answering.{open-answer-is}
 use Rattle.sealing.proofs.Masks.{length-masked}

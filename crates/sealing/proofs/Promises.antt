@@ -2,10 +2,10 @@
 use mathlib.Core.Path.{_≡_, sym, ap, _∙_}
 use mathlib.Core.Bool.{Bool}
 use mathlib.Core.List.{List}
-use Prim.Native.Nat.{ℕ, _<_, _≤_}
+use Prim.Native.Nat.{ℕ, _<_}
 use native.Mathlib.Omega.{arith}
 use lib.Dec.{leb}
-use lib.ListN.{length, take}
+use lib.ListN.{length}
 use Rattle.std.specs.declared.cmp.Ordering.{Ordering}
 use Rattle.std.specs.declared.option.Option.{Option}
 use Rattle.std.specs.declared.option.Option.the-variants.{Some}
@@ -20,7 +20,7 @@ use Rattle.sealing.specs.declared.records.SealedKey.{SealedKey}
 use Rattle.sealing.specs.Compared.{decided, compared, first-different-bit}
 use Rattle.sealing.specs.Opened.{open-answer}
 use Rattle.sealing.specs.Promises.{Seals-in-order, Opens-exactly, Compares-as-sealed}
-use Rattle.sealing.specs.Sealed.{sealed, seal-answer, packed-length, take-in-answer, Taken-in}
+use Rattle.sealing.specs.Sealed.{sealed, seal-answer}
 use Rattle.sealing.proofs.Opening.{opens-sealed, opened-seals, opened-served}
 use Rattle.sealing.proofs.SealedOrder.{compares-as-bytes}
 use Rattle.sealing.proofs.TakenIn.{sealed-taken-in}

@@ -19,7 +19,6 @@ use Rattle.digits.proofs.Ordering.{order-less, order-same, order-greater, numbe
 use Rattle.digits.proofs.Packing.{filled-is, unpacked-packed, length-bits}
 use Rattle.keys.specs.Kinds.{Bytes, Served}
 use Rattle.sealing.specs.declared.records.SealedKey.{SealedKey}
-use Rattle.sealing.specs.declared.records.Comparison.{Comparison}
 use Rattle.sealing.specs.Masking.{masked, packed-trits}
 use Rattle.sealing.specs.Sealed.{sealed, Sealed-under}
 use Rattle.sealing.specs.Compared.{decided, trits-compared, compared, difference-from, first-different-bit}

@@ -1,6 +1,6 @@
 -- Taking in sealed keys: what is sealed can be taken in, and packing the trits of what was taken in gives it again.
 use mathlib.Core.Path.{_≡_, refl, sym, ap, _∙_}
-use mathlib.Core.Bool.{Bool, true, false, cond, _&&_}
+use mathlib.Core.Bool.{Bool, true, _&&_}
 use mathlib.Core.List.{List, [], _∷_, _++_}
 use Prim.Native.Nat.{ℕ, zero, suc, _+_, _-_, _*_, _<_, _≤_}
 use native.Mathlib.Omega.{arith}
@@ -8,10 +8,9 @@ use lib.Dec.{leb, eqb, lit<}
 use lib.ListN.{length, take, drop, replicate}
 use Rattle.std.specs.shelf.Lists.{All}
 use Rattle.std.proofs.shelf.Elements.{all-append, all-take}
-use Rattle.std.proofs.shelf.Lists.{append-assoc, append-nil, length-append, length-replicate, length-take-le, drop-all, drop-append-le, drop-at, drop-take, take-append-drop, take-append-le, take-replicate, replicate-append-replicate}
+use Rattle.std.proofs.shelf.Lists.{append-nil, length-append, length-replicate, length-take-le, drop-all, drop-append-le, drop-at, drop-take, take-append-drop, take-replicate, replicate-append-replicate}
 use Rattle.std.proofs.shelf.Tests.{and-from, and-parts, eqb-true, le-leb, leb-true}
-use Rattle.std.specs.declared.result.Result.{Result}
-use Rattle.std.specs.declared.result.Result.the-variants.{Ok, Err}
+use Rattle.std.specs.declared.result.Result.the-variants.{Ok}
 use Rattle.digits.specs.Positional.{bits, trits, packed, all-zero}
 use Rattle.digits.proofs.Packing.{length-bits, length-packed, length-unpacked, packed-lt, packed-nil, packed-unpacked}
 use Rattle.digits.proofs.Zeros.{packed-drop, packed-zeros, unpacked-append, unpacked-take, unpacked-zeros}

@@ -1,13 +1,12 @@
 -- Sealed keys as records, and what sealing and taking in answer.
 use mathlib.Core.Path.{_≡_}
-use mathlib.Core.Bool.{Bool, true, cond, _&&_}
+use mathlib.Core.Bool.{Bool, true, _&&_}
 use mathlib.Core.List.{List, [], _∷_, _++_}
 use Prim.Native.Nat.{ℕ, _+_, _-_, _*_, _/_, _<_}
 use lib.Dec.{leb, eqb}
 use lib.ListN.{length, drop, replicate}
-use Rattle.std.specs.shelf.Lists.{All}
 use Rattle.std.specs.declared.result.Result.{Result}
-use Rattle.std.specs.declared.result.Result.the-variants.{Ok, Err}
+use Rattle.std.specs.declared.result.Result.the-variants.{Ok}
 use Rattle.digits.specs.Positional.{bits, trits, all-zero}
 use Rattle.keys.specs.Refusals.{asked}
 use Rattle.keys.specs.Kinds.{Bytes, Served, served}

@@ -14,4 +14,5 @@ pub use opener::open;
 pub use records::Comparison;
 pub use records::SealedKey;
 pub use sealer::seal;
+pub use taker::packed_length;
 pub use taker::take_in;

@@ -1,4 +1,3 @@
-ghost use mathlib.Core.Bool.{Bool};
 ghost use mathlib.Core.Path.{_≡_};
 ghost use lib.ListN.{drop, length, take};
 ghost use Prim.Native.Nat.{_≤_};
@@ -9,8 +8,8 @@ use crate::SealedKey;
 use digits::trit_at;
 use keys::Refusal;
 
-// How many bytes the trits of a key of this width take.
-fn packed_length(width: u8) -> usize
+/// How many bytes the trits of a key of this width take.
+pub fn packed_length(width: u8) -> usize
     ensures { λ r. ⌜ r ≡ packed-length width ⌝ }
 {
     (8 * width as usize + 4) / 5

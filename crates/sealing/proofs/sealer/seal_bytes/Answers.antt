@@ -1,15 +1,12 @@
 use mathlib.Core.Path.{_≡_, refl, sym, ap, _∙_}
 use mathlib.Core.Bool.{false}
-use mathlib.Core.List.{List, [], _∷_, _++_}
-use Prim.Native.Nat.{ℕ, _+_, _*_, _%_, _<_, _≤_}
+use mathlib.Core.List.{[], _∷_, _++_}
+use Prim.Native.Nat.{_+_, _*_, _%_, _<_}
 use native.Mathlib.Omega.{arith}
-use lib.ListN.{length, getD, take}
-use borrow.Author.Needs.{needs}
-use borrow.Author.Tests.{lt-ltb}
+use lib.ListN.{length, take}
 use Rattle.std.proofs.shelf.Lists.{length-take-le, take-more, take-all}
 use Rattle.digits.specs.Positional.{bits}
 use Rattle.digits.proofs.Packing.{length-bits, trit-weight}
-use Rattle.masks.specs.Walks.{has-room}
 use Rattle.sealing.specs.Masking.{masked, packed-trits}
 use Rattle.std.specs.declared.result.Result.the-variants.{Ok}
 use Rattle.sealing.proofs.Walking.{steps-on, never-refused}
