@@ -1,6 +1,6 @@
 pub mod Answering
 pub mod Comparing
-pub mod Masks
+pub mod Masking
 pub mod Opening
 pub mod Promises
 pub mod SealedOrder

@@ -23,7 +23,7 @@ use Rattle.sealing.specs.Masking.{masked, packed-trits, unmasked}
 use Rattle.sealing.specs.Sealed.{sealed, Taken-in}
 use Rattle.sealing.specs.Opened.{bytes-of, bits-asked, open-answer}
 use Rattle.sealing.proofs.Answering.{open-answer-is}
-use Rattle.sealing.proofs.Masks.{length-masked}
+use Rattle.sealing.proofs.Masking.{length-masked}
 use Rattle.sealing.proofs.SealedOrder.{sealed-trits}
 use Rattle.sealing.proofs.TakenIn.{taken-in-length, taken-in-repacks}
 

@@ -22,7 +22,7 @@ use Rattle.sealing.specs.declared.records.SealedKey.{SealedKey}
 use Rattle.sealing.specs.Masking.{masked, packed-trits}
 use Rattle.sealing.specs.Sealed.{sealed, Sealed-under}
 use Rattle.sealing.specs.Compared.{decided, trits-compared, compared, difference-from, first-different-bit}
-use Rattle.sealing.proofs.Masks.{length-masked, masked-lt}
+use Rattle.sealing.proofs.Masking.{length-masked, masked-lt}
 
 -- the trits of a sealed key, and zeros behind them
 pub sealed-trits : (f : List Bool → ℕ) (key : List ℕ) → length key ≤ 32 → trits (sealed f key .bytes) ≡ masked f [] (bits key) ++ replicate (260 - 8 * length key) 0

@@ -21,7 +21,7 @@ use Rattle.sealing.specs.declared.records.SealedKey.{SealedKey}
 use Rattle.sealing.specs.Masking.{masked, packed-trits}
 use Rattle.sealing.specs.Sealed.{sealed, packed-length, record-of, trits-only, take-in-answer}
 use Rattle.sealing.proofs.Answering.{take-in-answer-is}
-use Rattle.sealing.proofs.Masks.{length-masked, masked-lt}
+use Rattle.sealing.proofs.Masking.{length-masked, masked-lt}
 use Rattle.sealing.proofs.SealedOrder.{sealed-trits}
 
 trits-only-of : (bs : List ℕ) → All (λ b. b < 243) bs → trits-only bs ≡ true
