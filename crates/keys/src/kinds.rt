@@ -32,6 +32,7 @@ pub trait KeyKind: OrderedKey {
     // the values of a kind are a family
     law gathers: { Served width → (i : Self·OrderedKey .Index) × ((v : Self) → Self·OrderedKey .lawful v → Self·OrderedKey .family i v) };
 
+    /// How many key bytes each value has.
     fn width() -> u8
         ensures { λ r. ⌜ r ≡ width ⌝ };
 

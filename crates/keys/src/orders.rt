@@ -23,6 +23,7 @@ pub trait OrderedKey: Copy {
 
     law same: { (i : Index) (a b : Self) → family i a → family i b → order a b ≡ Equal → a ≡ b };
 
+    /// How the two keys are ordered.
     fn compare(&self, other: &Self) -> Ordering
         ensures { λ r. ⌜ r ≡ order (now (self .entry)) (now (other .entry)) ⌝ };
 

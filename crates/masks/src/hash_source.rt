@@ -5,7 +5,7 @@ use crate::source::MaskSource;
 use crate::walk::Walk;
 use keys::Refusal;
 
-// The mask of a list is the hash of its text under the secret. There is no Debug: a secret is never printed.
+/// The mask of a list is the hash of its text under the secret. There is no Debug: a secret is never printed.
 #[derive(Drop)]
 pub struct HashSource {
     secret: [u8; 16],
@@ -13,6 +13,7 @@ pub struct HashSource {
 }
 
 impl HashSource {
+    /// The source of a secret, with an empty list.
     pub fn new(secret: [u8; 16]) -> HashSource
         ensures masks { λ r. ⌜ hash-masks (r .secret) ≡ hash-masks secret ⌝ }
         ensures list { λ r. ⌜ walked-bits (r .walk .text) ≡ [] ⌝ }

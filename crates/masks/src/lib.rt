@@ -1,4 +1,5 @@
 //! Mask sources: where the masks of order-revealing encryption come from.
+
 mod hash_source;
 mod source;
 mod tree_source;

@@ -5,8 +5,8 @@ use crate::source::MaskSource;
 use crate::walk::Walk;
 use keys::Refusal;
 
-// The lists are the paths of a binary tree of hash keys with the secret at its root. The mask of a list is a hash under
-// the key at its end. There is no Debug: a secret is never printed.
+/// The lists are the paths of a binary tree of hash keys with the secret at its root. The mask of a list is a hash under
+/// the key at its end. There is no Debug: a secret is never printed.
 #[derive(Drop)]
 pub struct TreeSource {
     secret: [u8; 16],
@@ -17,6 +17,7 @@ pub struct TreeSource {
 }
 
 impl TreeSource {
+    /// The source of a secret, with an empty list.
     pub fn new(secret: [u8; 16]) -> TreeSource
         ensures masks { λ r. ⌜ tree-masks (r .secret) ≡ tree-masks secret ⌝ }
         ensures list { λ r. ⌜ walked-bits (r .walk .text) ≡ [] ⌝ }

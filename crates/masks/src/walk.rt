@@ -7,7 +7,7 @@ ghost use Rattle.masks.specs.Sources.{walk-text, walked-bits};
 ghost use Rattle.masks.specs.Walks.{step-answer, stepped};
 use keys::Refusal;
 
-// A list of at most 255 bits, kept as the text that is hashed: one more bit alters two bytes.
+/// A list of at most 255 bits, kept as the text that is hashed: one more bit alters two bytes.
 #[derive(Drop)]
 pub struct Walk {
     // the length, then the bits, the most significant place of a byte first, and zeros after them
@@ -17,18 +17,21 @@ pub struct Walk {
 }
 
 impl Walk {
+    /// The empty list.
     pub fn new() -> Walk
         ensures { λ r. ⌜ walked-bits (r .text) ≡ [] ⌝ }
     {
         Walk { text: [0; 33] }
     }
 
+    /// The 33 bytes that are hashed.
     pub fn text(&self) -> &[u8; 33]
         ensures { λ r. ⌜ now r ≡ walk-text (walked-bits (now (self .entry) .text)) ⌝ }
     {
         &self.text
     }
 
+    /// Appends a bit, if there is room.
     pub fn push(&mut self, bit: bool) -> Result<(), Refusal>
         ensures answer { λ r. ⌜ numbered r ≡ step-answer (walked-bits (now (self .entry) .text)) ⌝ }
         ensures list { λ _. ⌜ walked-bits (now (self .exit) .text) ≡ stepped (walked-bits (now (self .entry) .text)) bit ⌝ }
