@@ -1,5 +1,7 @@
 //! The AVL tree by itself, without memory: its definitions, and what is shown of them over every kind of key.
 
+#![tactic(auto)]
+
 ghost use Rattle.avl.specs.Laws.{StaysSound, TreeStepsCommute};
 
 /// Does nothing: that it is proved says that every call keeps a tree balanced and each slot in one place.

@@ -1,5 +1,7 @@
 //! Books: pairs of key and ticket, in the order of their keys.
 
+#![tactic(auto)]
+
 mod books;
 mod clients;
 mod entries;

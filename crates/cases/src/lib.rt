@@ -1,6 +1,8 @@
 //! Cases that were worked by hand, proved of the definitions that all contracts rest on, and small clients of the
 //! cipher, proved from its contracts alone.
 
+#![tactic(auto)]
+
 ghost use Rattle.std.specs.Prelude.{◌≡◌, Ok};
 ghost use Rattle.digits.specs.Orders.{number_order};
 ghost use Rattle.keys.specs.Numbers.{count};

@@ -1,4 +1,6 @@
 //! Positional notation: bytes as rows of bits and of trits.
+#![tactic(auto)]
+
 ghost use Rattle.std.specs.Prelude.{◌≡◌, false, slice_index, slice_index_or};
 ghost use Rattle.digits.specs.Positional.{bits, trits};
 

@@ -1,5 +1,7 @@
 //! Key kinds: values with a fixed number of key bytes, whose order is the order of those bytes.
 
+#![tactic(auto)]
+
 mod counts;
 mod kinds;
 mod levels;

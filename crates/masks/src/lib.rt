@@ -1,5 +1,7 @@
 //! Mask sources: where the masks of order-revealing encryption come from.
 
+#![tactic(auto)]
+
 mod hash_source;
 mod source;
 mod tree_source;

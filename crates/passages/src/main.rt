@@ -1,5 +1,7 @@
 //! Reads commands from standard input, one a line, and prints the result of each at once.
 
+#![tactic(auto)]
+
 mod ciphers;
 mod commands;
 mod layouts;

@@ -1,6 +1,8 @@
 //! Order-revealing encryption of key bytes (Chenette, Lewi, Weis and Wu, FSE 2016, with trits): two keys sealed
 //! under one secret compare as their values do, and nothing else can be read off them but the first different place.
 
+#![tactic(auto)]
+
 mod comparer;
 mod opener;
 mod records;

@@ -1,5 +1,7 @@
 //! SipHash-2-4 (Aumasson and Bernstein, 2012): a 64-bit hash of a message under a secret key of 16 bytes.
 
+#![tactic(auto)]
+
 ghost use Rattle.std.specs.Prelude.{◌≡◌, ◌^◌, ◌<◌, ◌≤◌, length};
 ghost use Rattle.siphash.specs.SipHash.{little_endian, word_bytes, sip_round, initialize, compress, last_word, finalize, siphash};
 

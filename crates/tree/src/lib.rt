@@ -1,5 +1,7 @@
 //! The AVL tree in node memory that its owner hands over.
 
+#![tactic(auto)]
+
 mod changes;
 mod clients;
 mod descents;

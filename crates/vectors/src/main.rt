@@ -1,6 +1,8 @@
 //! Runs the published vectors of SipHash-2-4, the worked cases, and bad input at every call. Each line ends with `ok`
 //! or `DIFFERS`.
 
+#![tactic(auto)]
+
 mod hash_vectors;
 mod key_cases;
 mod mask_cases;

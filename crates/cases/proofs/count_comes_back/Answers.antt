@@ -9,8 +9,8 @@ use Rattle.cases.proofs.count_comes_back.Goals as goal
 pub returns : goal.returns
 returns c =
     let number = c.args.number in
-    let key_is : c.in-ok-sealed.sealed ≡ sealed (hash_masks c.new-source.result.secret) (number_key number) = value_from_ok c.in-ok-sealed.sealed (sealed (hash_masks c.new-source.result.secret) (number_key number)) c.in-ok-sealed.ensures.answer in
-    let same = c.in-ok-sealed.ensures.same-masks in
+    let key_is : c.in_ok-sealed.sealed ≡ sealed (hash_masks c.new-source.result.secret) (number_key number) = value_from_ok c.in_ok-sealed.sealed (sealed (hash_masks c.new-source.result.secret) (number_key number)) c.in_ok-sealed.ensures.answer in
+    let same = c.in_ok-sealed.ensures.same_masks in
     let room : 32 ≤ length c.seal.new.scratch = search rules in
     let fits : number < 2 ^ 32 = search rules in
     c.open.ensures.exactly.opens (count number) (omega arith, omega arith) room fits (ap (λ f. sealed f (number_key number)) same ∙ sym key_is)

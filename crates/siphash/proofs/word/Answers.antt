@@ -10,12 +10,12 @@ loop-i-init c =
     let bs = c.args.bytes.now in
     (sym (ap little_endian (drop_all (length bs) bs (omega arith))), rw (sub_self (length bs)) (lit< tt))
 
-pub overflow-mul-number : goal.overflow-mul-number
-overflow-mul-number c =
+pub overflow_mul-number : goal.overflow_mul-number
+overflow_mul-number c =
     omega (arith, below_top_byte (length c.args.bytes.now - c.loop-i.i) c.loop-i.number (omega arith) c.loop-i.invariant.1)
 
-pub overflow-add-number : goal.overflow-add-number
-overflow-add-number c =
+pub overflow_add-number : goal.overflow_add-number
+overflow_add-number c =
     omega (arith, below_top_byte (length c.args.bytes.now - c.loop-i.i) c.loop-i.number (omega arith) c.loop-i.invariant.1)
 
 pub loop-i-preserved : goal.loop-i-preserved

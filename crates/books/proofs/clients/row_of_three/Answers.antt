@@ -32,7 +32,7 @@ returns c =
     let two = entry (count 20) 2 in
     let three = entry (count 30) 3 in
     -- the row before each call
-    let at_first = c.new-row.ensures in
+    let at_first = c.new_row.ensures in
     let after_added = left (Add (count 20) 2) (row []) at_first c.add-added.ensures.left in
     let after_one = left (Add (count 10) 1) (row (two ∷ [])) after_added c.add.ensures.left in
     let after_again = left (Add (count 20) 9) (row (one ∷ two ∷ [])) after_one c.add-again.ensures.left in
@@ -41,8 +41,8 @@ returns c =
     let after_taken = left (Take (count 20)) (row (one ∷ two ∷ three ∷ [])) after_full c.take-taken.ensures.left in
     let after_missing = left (Take (count 20)) (row (one ∷ three ∷ [])) after_taken c.take-missing.ensures.left in
     let after_found = left (Find (count 30)) (row (one ∷ three ∷ [])) after_missing c.find-found.ensures.left in
-    let after_from = left (SeekFrom (count 10)) (row (one ∷ three ∷ [])) after_found c.seek-from-from.ensures.left in
-    let at_last = left (SeekAfter (count 10)) (row (one ∷ three ∷ [])) after_from c.seek-after-after.ensures.left in
+    let after_from = left (SeekFrom (count 10)) (row (one ∷ three ∷ [])) after_found c.seek_from-from.ensures.left in
+    let at_last = left (SeekAfter (count 10)) (row (one ∷ three ∷ [])) after_from c.seek_after-after.ensures.left in
     record {
       added = cc (answered (Add (count 20) 2) (row []) at_first c.add-added.ensures.answer);
       again = cc (answered (Add (count 20) 9) (row (one ∷ two ∷ [])) after_one c.add-again.ensures.answer);
@@ -50,8 +50,8 @@ returns c =
       taken = cc (answered (Take (count 20)) (row (one ∷ two ∷ three ∷ [])) after_full c.take-taken.ensures.answer);
       missing = cc (answered (Take (count 20)) (row (one ∷ three ∷ [])) after_taken c.take-missing.ensures.answer);
       found = cc (answered (Find (count 30)) (row (one ∷ three ∷ [])) after_missing c.find-found.ensures.answer);
-      from = cc (answered (SeekFrom (count 10)) (row (one ∷ three ∷ [])) after_found c.seek-from-from.ensures.answer);
-      after = cc (answered (SeekAfter (count 10)) (row (one ∷ three ∷ [])) after_from c.seek-after-after.ensures.answer);
+      from = cc (answered (SeekFrom (count 10)) (row (one ∷ three ∷ [])) after_found c.seek_from-from.ensures.answer);
+      after = cc (answered (SeekAfter (count 10)) (row (one ∷ three ∷ [])) after_from c.seek_after-after.ensures.answer);
       left = c.count.ensures ∙ ap (λ m. length (map known m.held)) at_last;
       room = c.capacity.ensures ∙ ap (λ m. m.room) at_last;
     }

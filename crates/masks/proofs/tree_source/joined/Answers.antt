@@ -10,10 +10,10 @@ filled_in first second l =
     let behind = ap (drop 8) (drop_at first zeros 8 l) in
     ap (λ xs. xs ++ (second ++ drop 8 (drop 8 (first ++ zeros)))) front ∙ ap (λ xs. first ++ (second ++ xs)) behind ∙ ap (λ xs. first ++ xs) (append-nil second)
 
-pub slice-bounds-whole-end-2 : goal.slice-bounds-whole-end-2
-slice-bounds-whole-end-2 c = simp length-append (search rules)
+pub slice_bounds-whole-end-2 : goal.slice_bounds-whole-end-2
+slice_bounds-whole-end-2 c = simp length-append (search rules)
 
 pub returns : goal.returns
 returns c =
-    let whole = filled_in c.copy-from-slice.new.self c.copy-from-slice-2.new.self c.copy-from-slice.ensures.len in
+    let whole = filled_in c.copy_from_slice.new.self c.copy_from_slice-2.new.self c.copy_from_slice.ensures.len in
     cc

@@ -10,8 +10,8 @@ at_another text i inside other = rw (drop_more text i 0 inside, other)
 at_a_graphic : (text : List ℕ) (i : ℕ) → i < length text → is_ascii_graphic (get_or text i 0) ≡ true → graphic_only (drop i text) ≡ graphic_only (drop (i + 1) text)
 at_a_graphic text i inside graphic = rw (drop_more text i 0 inside, graphic)
 
-pub returns-then-not-is-ascii-graphic : goal.returns-then-not-is-ascii-graphic
-returns-then-not-is-ascii-graphic c =
+pub returns-then-not-is_ascii_graphic : goal.returns-then-not-is_ascii_graphic
+returns-then-not-is_ascii_graphic c =
     sym (c.loop-byte.invariant ∙ at_another c.args.text.now c.loop-byte.byte-index c.loop-byte-test.true (cc))
 
 pub loop-byte-preserved : goal.loop-byte-preserved

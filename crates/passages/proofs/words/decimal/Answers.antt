@@ -30,8 +30,8 @@ module _ (word : List ℕ) (n i : ℕ) (so_far : decimal_after 0 word ≡ decima
   at_the_end : length word ≤ i → n < 2 ^ 32 → decimal_after 0 word ≡ Some n
   at_the_end all small = so_far ∙ rw (drop_all i word all) (grind (arith, nat_tests))
 
-pub returns-then-not-is-ascii-digit : goal.returns-then-not-is-ascii-digit
-returns-then-not-is-ascii-digit c =
+pub returns-then-not-is_ascii_digit : goal.returns-then-not-is_ascii_digit
+returns-then-not-is_ascii_digit c =
     sym (from_zero c.args.word.now (cc) ∙ at_another_byte c.args.word.now c.loop-byte.number c.loop-byte.byte-index c.loop-byte.invariant.0 c.loop-byte-test.true (cc))
 
 pub returns-then-number-from : goal.returns-then-number-from

@@ -11,10 +11,10 @@ behind_a_minus (c ∷ cs) read some minus is =
     let all : take (length (c ∷ cs) - 1) cs ≡ cs = take_all (length (c ∷ cs) - 1) cs (omega arith) in
     rw (minus, is, all)
 
-pub returns-in-err-decimal-2 : goal.returns-in-err-decimal-2
-returns-in-err-decimal-2 c =
-    c.from-residual-in-err-decimal-2.ensures ∙ behind_a_minus c.args.word.now _ (cc) c.if-word-ne45.false c.in-err-decimal-2.ensures
+pub returns-in_err-decimal-2 : goal.returns-in_err-decimal-2
+returns-in_err-decimal-2 c =
+    c.from_residual-in_err-decimal-2.ensures ∙ behind_a_minus c.args.word.now _ (cc) c.if-word-ne45.false c.in_err-decimal-2.ensures
 
 pub returns : goal.returns
 returns c =
-    c.at-most-zero.ensures ∙ behind_a_minus c.args.word.now _ (cc) c.if-word-ne45.false c.in-ok-decimal-2.ensures
+    c.at_most_zero.ensures ∙ behind_a_minus c.args.word.now _ (cc) c.if-word-ne45.false c.in_ok-decimal-2.ensures

@@ -11,12 +11,12 @@ pub loop-i-preserved-then-a-i : goal.loop-i-preserved-then-a-i
 loop-i-preserved-then-a-i c =
     sym (same_byte c.args.a.now c.args.b.now c.loop-i.i (omega arith) (omega arith) c.if-a-i.true) ∙ c.loop-i.invariant
 
-pub order-of-trits-requires : goal.order-of-trits-requires
-order-of-trits-requires c =
+pub order_of_trits-requires : goal.order_of_trits-requires
+order_of_trits-requires c =
     let a = c.args.a.now in
     let long = length_unpacked 3 5 a in
     let small = All-get_or (λ t. t < 3) (trits a) (5 * c.loop-i.i + c.loop-j.j) 0 (omega arith) (unpacked_lt 3 5 a (lit< tt)) in
-    omega (arith, small, c.trit-at-x.ensures)
+    omega (arith, small, c.trit_at-x.ensures)
 
 pub loop-j-preserved : goal.loop-j-preserved
 loop-j-preserved c =
@@ -26,7 +26,7 @@ loop-j-preserved c =
     let long_a = length_unpacked 3 5 a in
     let long_b = length_unpacked 3 5 b in
     let on : k + 1 ≡ 5 * c.loop-i.i + (c.loop-j.j + 1) = omega arith in
-    let same = same_trit (trits a) (trits b) k (omega arith) (omega arith) (sym c.trit-at-x.ensures ∙ c.if-x-y.false ∙ c.trit-at-y.ensures) in
+    let same = same_trit (trits a) (trits b) k (omega arith) (omega arith) (sym c.trit_at-x.ensures ∙ c.if-x-y.false ∙ c.trit_at-y.ensures) in
     ap (λ n. compared_from n (trits a) (trits b)) (sym on) ∙ sym same ∙ c.loop-j.invariant
 
 pub returns-then-x-y : goal.returns-then-x-y
@@ -34,14 +34,14 @@ returns-then-x-y c =
     let a = c.args.a.now in
     let b = c.args.b.now in
     let k = 5 * c.loop-i.i + c.loop-j.j in
-    let x = c.trit-at-x.result in
-    let y = c.trit-at-y.result in
+    let x = c.trit_at-x.result in
+    let y = c.trit_at-y.result in
     let long_a = length_unpacked 3 5 a in
     let long_b = length_unpacked 3 5 b in
-    let differ = other_trit (trits a) (trits b) k (omega arith) (omega arith) (λ e. c.if-x-y.true (c.trit-at-x.ensures ∙ e ∙ sym c.trit-at-y.ensures)) in
+    let differ = other_trit (trits a) (trits b) k (omega arith) (omega arith) (λ e. c.if-x-y.true (c.trit_at-x.ensures ∙ e ∙ sym c.trit_at-y.ensures)) in
     let at_trits : decided (cond (eqb y ((x + 1) % 3)) Less Greater) (k + 1) ≡ compared_from k (trits a) (trits b) =
-    rw (c.trit-at-x.ensures, c.trit-at-y.ensures) (sym differ) in
-    ap (λ o. decided o (k + 1)) c.order-of-trits.ensures ∙ at_trits ∙ c.loop-j.invariant
+    rw (c.trit_at-x.ensures, c.trit_at-y.ensures) (sym differ) in
+    ap (λ o. decided o (k + 1)) c.order_of_trits.ensures ∙ at_trits ∙ c.loop-j.invariant
 
 pub returns-after-loop-i : goal.returns-after-loop-i
 returns-after-loop-i c =

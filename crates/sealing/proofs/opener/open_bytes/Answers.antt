@@ -7,7 +7,7 @@ use Rattle.sealing.specs.Opened.{bytes_of, found_answer}
 use Rattle.sealing.proofs.Walking.{steps_on, never_refused}
 use Rattle.sealing.proofs.Unmasking.{first_trits, nothing_opened, no_bit_behind, written_fits, one_more_opened, all_opened}
 use Rattle.sealing.proofs.opener.open_bytes.Goals as goal
-use Rattle.sealing.proofs.opener.open_bytes.Goals.{then-i-end+in-ok-step, else-i-end}
+use Rattle.sealing.proofs.opener.open_bytes.Goals.{then-i-end+in_ok-step, else-i-end}
 
 pub loop-i-init : goal.loop-i-init
 loop-i-init g c =
@@ -15,32 +15,32 @@ loop-i-init g c =
     let cleared : key ≡ replicate (length c.args.key.now) 0 = search rules in
     (refl, nothing_opened _ _ (length key) _ key c.requires.start (cleared ∙ ap (λ n. replicate n 0) (sym c.fill.ensures.len)))
 
-pub returns-in-err-bit : goal.returns-in-err-bit
-returns-in-err-bit g c =
+pub returns-in_err-bit : goal.returns-in_err-bit
+returns-in_err-bit g c =
     let f = g.S.MaskSource.masks c.args.source.now in
     let walked = g.S.MaskSource.walked c.loop-i.source in
     let sealed = c.args.sealed.now in
     let same = c.fill.ensures.len in
     let served : length c.fill.new.self ≤ 32 = omega (arith, same, c.requires.served) in
     let none = no_bit_behind f sealed (length c.fill.new.self) c.loop-i.i walked c.loop-i.key c.loop-i.invariant.1 served c.told-sealed
-    c.loop-i-test.true c.trit-at.result c.mask.result c.trit-at.ensures (c.mask.ensures ∙ ap (λ h. h walked) c.loop-i.invariant.0) _ c.in-err-bit.ensures in
+    c.loop-i-test.true c.trit_at.result c.mask.result c.trit_at.ensures (c.mask.ensures ∙ ap (λ h. h walked) c.loop-i.invariant.0) _ c.in_err-bit.ensures in
     let whole : unmasked f [] (first_trits (length c.args.key.now) sealed) ≡ None = ap (λ n. unmasked f [] (first_trits n sealed)) (sym same) ∙ none.0 in
-    let refusal = err_from_is_err_and c.from-residual.result c.from-residual.ensures.1 in
+    let refusal = err_from_is_err_and c.from_residual.result c.from_residual.ensures.1 in
     record {
       answer = ap numbered (refusal.1 ∙ ap (λ e. Err e) refusal.2) ∙ ap (λ n. Err n) none.1 ∙ sym (ap found_answer whole);
       left = rw whole tt;
-      same-masks = c.loop-i.invariant.0;
+      same_masks = c.loop-i.invariant.0;
     }
 
-pub returns-in-err-step : goal.returns-in-err-step
-returns-in-err-step g c =
+pub returns-in_err-step : goal.returns-in_err-step
+returns-in_err-step g c =
     let walked = g.S.MaskSource.walked c.loop-i.source in
     let so_far = c.loop-i.invariant.1 in
     let far : length walked ≡ c.loop-i.i = ap length (so_far.along c.loop-i-test.true) ∙ so_far.long in
-    absurd (never_refused walked (omega (arith, far, c.if-i-end.true, c.requires.served, c.fill.ensures.len)) c.in-err-step.field-0.0 c.in-err-step.ensures.answer)
+    absurd (never_refused walked (omega (arith, far, c.if-i-end.true, c.requires.served, c.fill.ensures.len)) c.in_err-step.field-0.0 c.in_err-step.ensures.answer)
 
-pub overflow-add-key : goal.overflow-add-key
-overflow-add-key g c =
+pub overflow_add-key : goal.overflow_add-key
+overflow_add-key g c =
     let i = c.loop-i.i in
     let walked = g.S.MaskSource.walked c.loop-i.source in
     let same = c.fill.ensures.len in
@@ -48,13 +48,13 @@ overflow-add-key g c =
     omega (
       arith,
       written_fits _ c.args.sealed.now (length c.fill.new.self) i walked c.loop-i.key c.loop-i.invariant.1 served c.told-sealed
-          c.loop-i-test.true c.trit-at.result c.mask.result c.trit-at.ensures (c.mask.ensures ∙ ap (λ h. h walked) c.loop-i.invariant.0) c.in-ok-bit.bit _ (one_shl (7 - i % 8) 8 (omega arith)),
+          c.loop-i-test.true c.trit_at.result c.mask.result c.trit_at.ensures (c.mask.ensures ∙ ap (λ h. h walked) c.loop-i.invariant.0) c.in_ok-bit.bit _ (one_shl (7 - i % 8) 8 (omega arith)),
     )
 
 pub loop-i-preserved : goal.loop-i-preserved
 loop-i-preserved g c =
     let i = c.loop-i.i in
-    let bit = c.in-ok-bit.bit in
+    let bit = c.in_ok-bit.bit in
     let masks = g.S.MaskSource.masks in
     let walked = g.S.MaskSource.walked in
     let before = walked c.loop-i.source in
@@ -62,11 +62,11 @@ loop-i-preserved g c =
     let same = c.fill.ensures.len in
     let served : length c.fill.new.self ≤ 32 = omega (arith, same, c.requires.served) in
     let more = one_more_opened (masks c.args.source.now) c.args.sealed.now (length c.fill.new.self) i before c.loop-i.key so_far served c.told-sealed
-    c.loop-i-test.true c.trit-at.result c.mask.result c.trit-at.ensures (c.mask.ensures ∙ ap (λ h. h before) c.loop-i.invariant.0) bit _ (one_shl (7 - i % 8) 8 (omega arith))
-    c.in-ok-bit.ensures (walked c.if-i-end.source) in
+    c.loop-i-test.true c.trit_at.result c.mask.result c.trit_at.ensures (c.mask.ensures ∙ ap (λ h. h before) c.loop-i.invariant.0) bit _ (one_shl (7 - i % 8) 8 (omega arith))
+    c.in_ok-bit.ensures (walked c.if-i-end.source) in
     let far : length before ≡ i = ap length (so_far.along c.loop-i-test.true) ∙ so_far.long in
     elim c.if-i-end.branch [
-      | then-i-end+in-ok-step w ↦ (
+      | then-i-end+in_ok-step w ↦ (
         ap masks w.source-is ∙ w.step.ensures.same ∙ c.loop-i.invariant.0,
         more (λ _. ap walked w.source-is ∙ w.step.ensures.list ∙ steps_on before (omega (arith, far, w.if-i-end.true, c.requires.served, same)) bit),
       )
@@ -87,5 +87,5 @@ returns g c =
     record {
       answer = sym (ap found_answer whole);
       left = rw whole (so_far.written ∙ ap (λ n. bytes_of n so_far.found) (sym c.loop-i.auto.key));
-      same-masks = c.loop-i.invariant.0;
+      same_masks = c.loop-i.invariant.0;
     }

@@ -16,6 +16,6 @@ returns g c =
     record {
       answer = c.read.ensures
           ∙ opens_some (g.S.MaskSource.masks c.args.source.now) kind.width kind.decode (length scratch) c.args.key.now s room (c.if-key-width.false ∙ width_is)
-          (length (take (width - 0) scratch)) c.open-bytes.new.key _ part_is c.open-bytes.auto.key c.in-ok-open-bytes.ensures.answer c.in-ok-open-bytes.ensures.left;
-      same-masks = c.open-bytes.ensures.same-masks;
+          (length (take (width - 0) scratch)) c.open_bytes.new.key _ part_is c.open_bytes.auto.key c.in_ok-open_bytes.ensures.answer c.in_ok-open_bytes.ensures.left;
+      same_masks = c.open_bytes.ensures.same_masks;
     }

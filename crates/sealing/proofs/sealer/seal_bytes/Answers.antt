@@ -3,40 +3,40 @@ use Rattle.digits.proofs.Packing.{trit_weight}
 use Rattle.sealing.specs.MaskingLemmas.{nothing_sealed, walked_long, next_fits, one_more_sealed, all_sealed}
 use Rattle.sealing.proofs.Walking.{steps_on, never_refused}
 use Rattle.sealing.proofs.sealer.seal_bytes.Goals as goal
-use Rattle.sealing.proofs.sealer.seal_bytes.Goals.{then-i-end+in-ok-step, else-i-end}
+use Rattle.sealing.proofs.sealer.seal_bytes.Goals.{then-i-end+in_ok-step, else-i-end}
 
 pub loop-i-init : goal.loop-i-init
 loop-i-init g c = (refl, nothing_sealed _ c.args.key.now _ c.requires.start)
 
-pub overflow-add-trits : goal.overflow-add-trits
-overflow-add-trits g c =
+pub overflow_add-trits : goal.overflow_add-trits
+overflow_add-trits g c =
     let walked = g.S.MaskSource.walked c.loop-i.source in
     omega (
       arith,
-      next_fits _ c.args.key.now c.loop-i.i walked c.loop-i.trits c.loop-i.invariant.1 c.loop-i-test.true c.requires.served c.mask.result c.bit-at-bit.result _
-          (c.mask.ensures ∙ ap (λ h. h walked) c.loop-i.invariant.0) c.bit-at-bit.ensures (trit_weight (c.loop-i.i % 5) (omega arith)),
+      next_fits _ c.args.key.now c.loop-i.i walked c.loop-i.trits c.loop-i.invariant.1 c.loop-i-test.true c.requires.served c.mask.result c.bit_at-bit.result _
+          (c.mask.ensures ∙ ap (λ h. h walked) c.loop-i.invariant.0) c.bit_at-bit.ensures (trit_weight (c.loop-i.i % 5) (omega arith)),
     )
 
-pub returns-in-err-step : goal.returns-in-err-step
-returns-in-err-step g c =
+pub returns-in_err-step : goal.returns-in_err-step
+returns-in_err-step g c =
     let walked = g.S.MaskSource.walked c.loop-i.source in
     let far = walked_long _ c.args.key.now c.loop-i.i walked c.loop-i.trits c.loop-i.invariant.1 c.loop-i-test.true in
-    absurd (never_refused walked (omega (arith, far, c.if-i-end.true, c.requires.served)) c.in-err-step.field-0.0 c.in-err-step.ensures.answer)
+    absurd (never_refused walked (omega (arith, far, c.if-i-end.true, c.requires.served)) c.in_err-step.field-0.0 c.in_err-step.ensures.answer)
 
 pub loop-i-preserved : goal.loop-i-preserved
 loop-i-preserved g c =
     let key = c.args.key.now in
     let i = c.loop-i.i in
-    let bit = c.bit-at-bit.result in
+    let bit = c.bit_at-bit.result in
     let masks = g.S.MaskSource.masks in
     let walked = g.S.MaskSource.walked in
     let before = walked c.loop-i.source in
     let so_far = c.loop-i.invariant.1 in
     let far = walked_long (masks c.args.source.now) key i before c.loop-i.trits so_far c.loop-i-test.true in
     let more = one_more_sealed (masks c.args.source.now) key i before c.loop-i.trits so_far c.loop-i-test.true c.requires.served c.mask.result bit _
-    (c.mask.ensures ∙ ap (λ h. h before) c.loop-i.invariant.0) c.bit-at-bit.ensures (trit_weight (i % 5) (omega arith)) (walked c.if-i-end.source) in
+    (c.mask.ensures ∙ ap (λ h. h before) c.loop-i.invariant.0) c.bit_at-bit.ensures (trit_weight (i % 5) (omega arith)) (walked c.if-i-end.source) in
     elim c.if-i-end.branch [
-      | then-i-end+in-ok-step w ↦ (
+      | then-i-end+in_ok-step w ↦ (
         ap masks w.source-is ∙ w.step.ensures.same ∙ c.loop-i.invariant.0,
         more (λ _. ap walked w.source-is ∙ w.step.ensures.list ∙ steps_on before (omega (arith, far, w.if-i-end.true, c.requires.served)) bit),
       )
@@ -48,5 +48,5 @@ pub returns : goal.returns
 returns g c =
     record {
       answer = ap (λ bytes. Ok bytes) (all_sealed _ c.args.key.now c.loop-i.i _ c.loop-i.trits c.loop-i.invariant.1 c.loop-i-test.false);
-      same-masks = c.loop-i.invariant.0;
+      same_masks = c.loop-i.invariant.0;
     }

@@ -12,7 +12,7 @@ returns g c =
     let s : Served kind.width = (omega (arith, width_is), omega (arith, width_is)) in
     let room : 32 ≤ length scratch = omega arith in
     record {
-      answer = seals_what_was_written (g.S.MaskSource.masks c.args.source.now) kind.width c.width-width.result (kind.encode value) scratch c.write.new.out c.in-ok-bytes.bytes
-          width_is s room (g.met.K.KeyKind.wide value c.requires.lawful s) c.write.ensures.left c.in-ok-bytes.ensures.answer;
-      same-masks = c.seal-bytes.ensures.same-masks;
+      answer = seals_what_was_written (g.S.MaskSource.masks c.args.source.now) kind.width c.width-width.result (kind.encode value) scratch c.write.new.out c.in_ok-bytes.bytes
+          width_is s room (g.met.K.KeyKind.wide value c.requires.lawful s) c.write.ensures.left c.in_ok-bytes.ensures.answer;
+      same_masks = c.seal_bytes.ensures.same_masks;
     }

@@ -15,8 +15,8 @@ returns-in-Equal g t c tree h = meets c.in-At.is c.index-nodes-i.is h g.K.Ordere
 pub insert-below-requires : goal.insert-below-requires
 insert-below-requires g t c κs within = (omega (arith, left_falls c.in-At.is c.index-nodes-i.is c.requires.1, c.decreases), (within, left_changeable c.in-At.is c.index-nodes-i.is c.requires.1))
 
-pub overflow-add-comparisons : goal.overflow-add-comparisons
-overflow-add-comparisons g t c = let h = left_few c.in-At.is c.index-nodes-i.is c.requires.1 c.insert-below.ensures in omega arith
+pub overflow_add-comparisons : goal.overflow_add-comparisons
+overflow_add-comparisons g t c = let h = left_few c.in-At.is c.index-nodes-i.is c.requires.1 c.insert-below.ensures in omega arith
 
 pub settle-top-requires : goal.settle-top-requires
 settle-top-requires g t c = left_joins_again c.in-At.is c.index-nodes-i.is c.requires.1 c.insert-below.ensures c.insert-below.auto.nodes c.in-Ok.is
@@ -30,8 +30,8 @@ returns-in-default g t c tree h = left_refused c.in-At.is c.index-nodes-i.is h c
 pub insert-below-requires-in-Greater : goal.insert-below-requires-in-Greater
 insert-below-requires-in-Greater g t c κs within = (omega (arith, right_falls c.in-At.is c.index-nodes-i.is c.requires.1, c.decreases), (within, right_changeable c.in-At.is c.index-nodes-i.is c.requires.1))
 
-pub overflow-add-comparisons-in-Greater : goal.overflow-add-comparisons-in-Greater
-overflow-add-comparisons-in-Greater g t c = let h = right_few c.in-At.is c.index-nodes-i.is c.requires.1 c.insert-below-in-Greater.ensures in omega arith
+pub overflow_add-comparisons-in-Greater : goal.overflow_add-comparisons-in-Greater
+overflow_add-comparisons-in-Greater g t c = let h = right_few c.in-At.is c.index-nodes-i.is c.requires.1 c.insert-below-in-Greater.ensures in omega arith
 
 pub settle-top-requires-in-Ok-top : goal.settle-top-requires-in-Ok-top
 settle-top-requires-in-Ok-top g t c = right_joins_again c.in-At.is c.index-nodes-i.is c.requires.1 c.insert-below-in-Greater.ensures c.insert-below-in-Greater.auto.nodes c.in-Ok-top.is

@@ -14,20 +14,20 @@ remove-below-requires g t c κs within =
     let r = root c.args.nodes.now c.in-At.is c.index-nodes-i.is in
     (omega (arith, falls_left r c.requires, c.decreases), (within, left_changeable refl (sided r c.requires)))
 
-pub overflow-add-comparisons : goal.overflow-add-comparisons
-overflow-add-comparisons g t c =
+pub overflow_add-comparisons : goal.overflow_add-comparisons
+overflow_add-comparisons g t c =
     let r = root c.args.nodes.now c.in-At.is c.index-nodes-i.is in
     omega (arith, side_few (left_way r c.in-Less.ensures) c.remove-below.result c.remove-below.ensures c.requires)
 
-pub settle-again-top-requires : goal.settle-again-top-requires
-settle-again-top-requires g t c =
+pub settle_again-top-requires : goal.settle_again-top-requires
+settle_again-top-requires g t c =
     let r = root c.args.nodes.now c.in-At.is c.index-nodes-i.is in
     left_removal_rejoins {s = c.args.key.now} r c.remove-below.auto.nodes c.remove-below.result c.in-Some.is c.in-Less.ensures c.remove-below.ensures c.requires
 
 pub returns-in-Some : goal.returns-in-Some
 returns-in-Some g t c =
     let r = root c.args.nodes.now c.in-At.is c.index-nodes-i.is in
-    left_removal_settles r c.remove-below.auto.nodes c.remove-below.result c.in-Some.is c.in-Less.ensures c.remove-below.ensures c.settle-again-top.ensures
+    left_removal_settles r c.remove-below.auto.nodes c.remove-below.result c.in-Some.is c.in-Less.ensures c.remove-below.ensures c.settle_again-top.ensures
 
 pub returns-in-None : goal.returns-in-None
 returns-in-None g t c =
@@ -39,20 +39,20 @@ remove-below-requires-in-Greater g t c κs within =
     let r = root c.args.nodes.now c.in-At.is c.index-nodes-i.is in
     (omega (arith, falls_right r c.requires, c.decreases), (within, right_changeable refl (sided r c.requires)))
 
-pub overflow-add-comparisons-in-Greater : goal.overflow-add-comparisons-in-Greater
-overflow-add-comparisons-in-Greater g t c =
+pub overflow_add-comparisons-in-Greater : goal.overflow_add-comparisons-in-Greater
+overflow_add-comparisons-in-Greater g t c =
     let r = root c.args.nodes.now c.in-At.is c.index-nodes-i.is in
     omega (arith, side_few (right_way r c.in-Greater.ensures) c.remove-below-in-Greater.result c.remove-below-in-Greater.ensures c.requires)
 
-pub settle-again-top-requires-in-Some-gone : goal.settle-again-top-requires-in-Some-gone
-settle-again-top-requires-in-Some-gone g t c =
+pub settle_again-top-requires-in-Some-gone : goal.settle_again-top-requires-in-Some-gone
+settle_again-top-requires-in-Some-gone g t c =
     let r = root c.args.nodes.now c.in-At.is c.index-nodes-i.is in
     right_removal_rejoins {s = c.args.key.now} r c.remove-below-in-Greater.auto.nodes c.remove-below-in-Greater.result c.in-Some-gone.is c.in-Greater.ensures c.remove-below-in-Greater.ensures c.requires
 
 pub returns-in-Some-gone : goal.returns-in-Some-gone
 returns-in-Some-gone g t c =
     let r = root c.args.nodes.now c.in-At.is c.index-nodes-i.is in
-    right_removal_settles r c.remove-below-in-Greater.auto.nodes c.remove-below-in-Greater.result c.in-Some-gone.is c.in-Greater.ensures c.remove-below-in-Greater.ensures c.settle-again-top-in-Some-gone.ensures
+    right_removal_settles r c.remove-below-in-Greater.auto.nodes c.remove-below-in-Greater.result c.in-Some-gone.is c.in-Greater.ensures c.remove-below-in-Greater.ensures c.settle_again-top-in-Some-gone.ensures
 
 pub returns-in-None-gone : goal.returns-in-None-gone
 returns-in-None-gone g t c =

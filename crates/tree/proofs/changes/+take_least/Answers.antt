@@ -11,15 +11,15 @@ bounds-nodes-i g t c = leads_inside c.args.nodes.now (At c.args.i) c.args.i c.re
 pub offset-bounds-nodes-i : goal.offset-bounds-nodes-i
 offset-bounds-nodes-i g t c = let h : c.args.i < length c.args.nodes.now = bounds-nodes-i g t c in search rules
 
-pub take-least-least-requires : goal.take-least-least-requires
-take-least-least-requires g t c κs within =
+pub take_least-least-requires : goal.take_least-least-requires
+take_least-least-requires g t c κs within =
     let r = root c.args.nodes.now {i = c.args.i} refl c.index-nodes-i.is in
     (omega (arith, falls_left r c.requires, ap (height_at c.args.nodes.now) c.in-At.is, c.decreases), (within, left_changeable c.in-At.is (sided r c.requires)))
 
-pub settle-again-top-requires : goal.settle-again-top-requires
-settle-again-top-requires g t c =
+pub settle_again-top-requires : goal.settle_again-top-requires
+settle_again-top-requires g t c =
     let r = root c.args.nodes.now {i = c.args.i} refl c.index-nodes-i.is in
-    least_rejoins r c.in-At.is c.take-least-least.auto.nodes c.take-least-least.ensures c.requires
+    least_rejoins r c.in-At.is c.take_least-least.auto.nodes c.take_least-least.ensures c.requires
 
 pub returns-in-Nil : goal.returns-in-Nil
 returns-in-Nil g t c = least_at_root (root c.args.nodes.now {i = c.args.i} refl c.index-nodes-i.is) c.in-Nil.is
@@ -27,4 +27,4 @@ returns-in-Nil g t c = least_at_root (root c.args.nodes.now {i = c.args.i} refl 
 pub returns-in-At : goal.returns-in-At
 returns-in-At g t c =
     let r = root c.args.nodes.now {i = c.args.i} refl c.index-nodes-i.is in
-    least_at_left r c.in-At.is c.take-least-least.auto.nodes c.take-least-least.ensures c.settle-again-top.ensures
+    least_at_left r c.in-At.is c.take_least-least.auto.nodes c.take_least-least.ensures c.settle_again-top.ensures

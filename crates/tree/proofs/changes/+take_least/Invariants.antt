@@ -2,5 +2,5 @@ use Rattle.tree.specs.declared.nodes.Link.TheVariants.{At}
 use Rattle.tree.specs.Standing.{height_at}
 use Rattle.tree.proofs.changes.+take_least.Given as goal
 
-abbrev pub decreases-take-least : goal.decreases-take-least
-decreases-take-least g l = height_at l.nodes.now (At l.i)
+abbrev pub decreases-take_least : goal.decreases-take_least
+decreases-take_least g l = height_at l.nodes.now (At l.i)

@@ -12,8 +12,8 @@ bounds-nodes-i g c = let w = c.loop-at.invariant c.requires.0 c.requires.1 in le
 pub offset-bounds-nodes-i : goal.offset-bounds-nodes-i
 offset-bounds-nodes-i g c = let h = bounds-nodes-i g c in omega arith
 
-pub overflow-add-comparisons : goal.overflow-add-comparisons
-overflow-add-comparisons g c = omega (arith, few_comparisons (c.loop-at.invariant c.requires.0 c.requires.1) c.requires.1.low)
+pub overflow_add-comparisons : goal.overflow_add-comparisons
+overflow_add-comparisons g c = omega (arith, few_comparisons (c.loop-at.invariant c.requires.0 c.requires.1) c.requires.1.low)
 
 pub loop-at-smaller-in-Less : goal.loop-at-smaller-in-Less
 loop-at-smaller-in-Less g c = walk_falls_left (c.loop-at.invariant c.requires.0 c.requires.1) c.in-At.is c.index-nodes-i.is

@@ -21,5 +21,5 @@ returns-then-n-ne0 g c =
 
 pub returns : goal.returns
 returns g c =
-    c.slot-of.ensures
+    c.slot_of.ensures
     ∙ free_next _ _ _ (stands_from_test _ _ c.requires) c.args.slot c.if-slot-state.false c.index-nodes-slot.result c.index-nodes-slot.is c.if-n-ne0.false

@@ -22,5 +22,5 @@ returns-then-n-eq0 g c =
 pub returns : goal.returns
 returns g c =
     let n = c.index-nodes-slot.result in
-    (λ i. Some (record { left = c.slot-of.ensures i; right = c.slot-of-2.ensures i; height = n.height; ticket = n.ticket }))
+    (λ i. Some (record { left = c.slot_of.ensures i; right = c.slot_of-2.ensures i; height = n.height; ticket = n.ticket }))
     ∙ held_shape _ _ _ (stands_from_test _ _ c.requires) c.args.slot c.if-slot-state.false n c.index-nodes-slot.is c.if-n-eq0.false

@@ -9,17 +9,17 @@ offset-bounds-nodes-j g c = let h : c.in-At.j < length c.args.nodes.now = leads_
 pub bounds-nodes-j : goal.bounds-nodes-j
 bounds-nodes-j g c = leads_inside c.args.nodes.now c.args.side c.in-At.j c.requires.0 c.requires.1.stands c.in-At.is
 
-pub height-at-outer-requires : goal.height-at-outer-requires
-height-at-outer-requires g c = side_reaches_left c.in-At.is c.index-nodes-j.is c.requires.1
+pub height_at-outer-requires : goal.height_at-outer-requires
+height_at-outer-requires g c = side_reaches_left c.in-At.is c.index-nodes-j.is c.requires.1
 
-pub height-at-inner-requires : goal.height-at-inner-requires
-height-at-inner-requires g c = side_reaches_right c.in-At.is c.index-nodes-j.is c.requires.1
+pub height_at-inner-requires : goal.height_at-inner-requires
+height_at-inner-requires g c = side_reaches_right c.in-At.is c.index-nodes-j.is c.requires.1
 
-pub turn-left-requires : goal.turn-left-requires
-turn-left-requires g c = side_joins c.in-At.is c.index-nodes-j.is c.requires.1
+pub turn_left-requires : goal.turn_left-requires
+turn_left-requires g c = side_joins c.in-At.is c.index-nodes-j.is c.requires.1
 
 pub returns-then-outer-inner : goal.returns-then-outer-inner
-returns-then-outer-inner g c t p = readies_left c.in-At.is c.index-nodes-j.is p (omega (arith, c.height-at-outer.ensures, c.height-at-inner.ensures, c.if-outer-inner.true)) c.turn_left.ensures
+returns-then-outer-inner g c t p = readies_left c.in-At.is c.index-nodes-j.is p (omega (arith, c.height_at-outer.ensures, c.height_at-inner.ensures, c.if-outer-inner.true)) c.turn_left.ensures
 
 pub returns-else-outer-inner : goal.returns-else-outer-inner
-returns-else-outer-inner g c t p = left_is_ready c.in-At.is c.index-nodes-j.is p (omega (arith, c.height-at-outer.ensures, c.height-at-inner.ensures, c.if-outer-inner.false))
+returns-else-outer-inner g c t p = left_is_ready c.in-At.is c.index-nodes-j.is p (omega (arith, c.height_at-outer.ensures, c.height_at-inner.ensures, c.if-outer-inner.false))

@@ -8,12 +8,12 @@ pub invariant-of-result : goal.invariant-of-result
 invariant-of-result c =
     let text = c.args.text.now in
     let fits : length text ≤ 16 = omega arith in
-    let whole = not-false (none_zero text) (sym c.has-zero.ensures ∙ c.if-has-zero.false) in
-    (new_is_name text c.copy-from-slice.new.self c.copy-from-slice.ensures.after fits whole, tt)
+    let whole = not-false (none_zero text) (sym c.has_zero.ensures ∙ c.if-has_zero.false) in
+    (new_is_name text c.copy_from_slice.new.self c.copy_from_slice.ensures.after fits whole, tt)
 
 pub returns : goal.returns
 returns c =
     let text = c.args.text.now in
     let fits : length text ≤ 16 = omega arith in
-    let whole = not-false (none_zero text) (sym c.has-zero.ensures ∙ c.if-has-zero.false) in
-    new_answers text c.copy-from-slice.new.self c.copy-from-slice.ensures.after fits whole
+    let whole = not-false (none_zero text) (sym c.has_zero.ensures ∙ c.if-has_zero.false) in
+    new_answers text c.copy_from_slice.new.self c.copy_from_slice.ensures.after fits whole

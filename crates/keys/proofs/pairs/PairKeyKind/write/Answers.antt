@@ -8,12 +8,12 @@ returns g c =
     let w = g.B.KeyKind.width in
     let out = c.args.out.now in
     let value = c.args.self.now in
-    let asked = c.in-ok-ask-width.ensures in
-    let first = c.in-ok-write.ensures in
+    let asked = c.in_ok-ask_width.ensures in
+    let first = c.in_ok-write.ensures in
     let second = c.write-2.ensures in
     let key = g.A.KeyKind.encode value.first in
     let p = parts_within v w c.width.result out c.width.ensures asked in
-    let long = g.met.A.KeyKind.wide value.first c.is-lawful.ensures p.0 in
+    let long = g.met.A.KeyKind.wide value.first c.is_lawful.ensures p.0 in
     record {
       answer = second.answer ∙ write_answers v w c.width.result out c.width.ensures asked c.width-split.result c.width-split.ensures key c.write.new.out long first.left;
       left =

@@ -20,7 +20,7 @@ invariant-of-self c =
     let short = pushed_short walk.text walk.exact walk.short c.if-len.false c.args.bit in
     (exact, (short, tt))
 
-pub overflow-add-self-2 : goal.overflow-add-self-2
-overflow-add-self-2 c =
+pub overflow_add-self-2 : goal.overflow_add-self-2
+overflow_add-self-2 c =
     let walk = c.args.self.now in
     record { fits = pushed_fits walk.text walk.exact walk.short c.if-len.false c.args.bit }

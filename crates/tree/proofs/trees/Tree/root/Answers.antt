@@ -7,4 +7,4 @@ use Rattle.tree.proofs.trees.Tree.root.Goals as goal
 pub returns : goal.returns
 returns g c =
     let s = stands_from_test _ _ c.args.self.now.ok in
-    c.slot-of.ensures ∙ (ap option_of s.tree_stands.linked ∙ link_shows _)
+    c.slot_of.ensures ∙ (ap option_of s.tree_stands.linked ∙ link_shows _)
