@@ -1,5 +1,5 @@
 -- Names: their fill, the bytes before it, and the one proof that bytes are a name.
-use Rattle.std.specs.Prelude.{◌≡◌, ℕ, zero, suc, ◌+◌, ◌-◌, ◌<◌, ◌≤◌, Bool, true, false, cond, not, ◌&&◌, List, [], ◌∷◌, ◌++◌, length, take, drop, replicate, Some, Ok, Err, Decides, ◌==◌, ◌≢◌, nat_le, slice_index, slice_index_or, refl}
+use Rattle.std.specs.Prelude.{◌≡◌, ℕ, zero, suc, ◌+◌, ◌-◌, ◌<◌, ◌≤◌, Bool, true, false, cond, not, ◌&&◌, List, [], ◌∷◌, ◌++◌, length, take, drop, replicate, Some, Ok, Err, ◌==◌, ◌≢◌, nat_le, slice_index, slice_index_or, refl}
 use Rattle.std.specs.declared.cmp.Ordering.TheVariants.{Less, Equal, Greater}
 use Rattle.std.specs.declared.cmp.Ordering.{Ordering}
 use Rattle.std.proofs.Common.{sym, ap, ◌∙◌, append_assoc, arith}
@@ -7,8 +7,7 @@ use Rattle.std.proofs.Math.Bool.{Bool-set}
 use mathlib.Core.HLevel.{is_prop→PathP}
 use Rattle.std.proofs.lemmas.List.{length-append, length-replicate, drop_more, drop_all, drop-replicate, take_more}
 use Rattle.std.proofs.lemmas.Bool.{false≢true, and_parts, and_from, and_left, and_right, cond-true, cond-false, eq-eqb, ne_eqb, eqb-true, not-true, le-leb}
-use Rattle.std.proofs.lemmas.Bool.Decides.{nat_tests}
-use Rattle.std.specs.Ordering.{ordering_then, MatchOrdering}
+use Rattle.std.specs.Ordering.{ordering_then}
 use Rattle.std.specs.List.{IsAnyAnswer}
 use Rattle.digits.specs.Orders.{number_order, row_order}
 use Rattle.keys.specs.Kinds.{value_asked, read_answer}
@@ -38,9 +37,9 @@ none_zero_from_places (x ∷ xs) h =
     and_from (not (x == 0)) (none_zero xs) (ap not (ne_eqb x 0 (h 0 (omega arith)))) (none_zero_from_places xs (λ k l. h (suc k) (omega arith)))
 
 -- what the search for a zero answers
-pub contains_zero : (xs : List ℕ) (r : Bool) → IsAnyAnswer (λ y t. Decides t (y ≡ 0)) xs r → r ≡ not (none_zero xs)
-contains_zero xs true at = sym (ap not (zero_from_place xs at.0 at.1 ((at.2 0).0 refl)))
-contains_zero xs false away = sym (ap not (none_zero_from_places xs (λ k h e. false≢true ((away k 0 (omega arith) h).1 e))))
+pub contains_zero : (xs : List ℕ) (r : Bool) → IsAnyAnswer (λ y t. (y == 0) ≡ t) xs r → r ≡ not (none_zero xs)
+contains_zero xs true at = sym (ap not (zero_from_place xs at.0 at.1 (eqb-true (slice_index xs at.0) 0 (at.2 0))))
+contains_zero xs false away = sym (ap not (none_zero_from_places xs (λ k h e. false≢true (sym (away k 0 (omega arith) h) ∙ eq-eqb (slice_index xs k) 0 e))))
 
 zeros_are : (n : ℕ) → all_zero (replicate n 0) ≡ true
 zeros_are zero = refl
@@ -120,12 +119,11 @@ module _ (a b : List ℕ) (i : ℕ) (before : row_order a b ≡ row_order (drop 
   pub order_ended : length a ≤ i → length b ≤ i → row_order a b ≡ Equal
   order_ended h k = before ∙ ap (λ t. row_order t (drop i b)) (drop_all i a h) ∙ ap (row_order []) (drop_all i b k)
 
-  module _ (h : i < length a) (k : i < length b) (o : Ordering) (ranked : MatchOrdering o (slice_index a i < slice_index b i) (slice_index a i ≡ slice_index b i) (slice_index b i < slice_index a i)) where
+  module _ (h : i < length a) (k : i < length b) (o : Ordering) (ranked : o ≡ number_order (slice_index a i) (slice_index b i)) where
     order_step : row_order a b ≡ ordering_then o (row_order (drop (i + 1) a) (drop (i + 1) b))
     order_step =
-        let told : number_order (slice_index a i) (slice_index b i) ≡ o = grind (arith, nat_tests) in
         before ∙ ap (λ t. row_order t (drop i b)) (drop_more a i 0 h) ∙ ap (row_order (slice_index a i ∷ drop (i + 1) a)) (drop_more b i 0 k)
-        ∙ ap (λ t. ordering_then t (row_order (drop (i + 1) a) (drop (i + 1) b))) told
+        ∙ ap (λ t. ordering_then t (row_order (drop (i + 1) a) (drop (i + 1) b))) (sym ranked)
 
     pub order_goes_on : o ≡ Equal → row_order a b ≡ row_order (drop (i + 1) a) (drop (i + 1) b)
     order_goes_on e = order_step ∙ ap (λ t. ordering_then t (row_order (drop (i + 1) a) (drop (i + 1) b))) e

@@ -1,7 +1,6 @@
 -- The key bytes of numbers can be read again, and levels are ordered as the counts that they are written as.
-use Rattle.std.specs.Prelude.{◌≡◌, ℕ, ◌-◌, ◌^◌, ◌<◌, List, length, ℤ, pos, negsuc, Some, FitsSigned, unsigned_abs}
+use Rattle.std.specs.Prelude.{◌≡◌, ℕ, ◌-◌, ◌^◌, ◌<◌, List, length, ℤ, pos, negsuc, ◌+ℤ◌, Some, FitsSigned, unsigned_abs}
 use Rattle.std.proofs.Common.{ap, ◌∙◌, subst, append-nil, arith}
-use Rattle.std.proofs.Math.IntN.{-ℤ-+ℤ_cancel}
 use Rattle.std.specs.Int.{w32}
 use Rattle.std.proofs.lemmas.Int.{ints}
 use Rattle.std.proofs.lemmas.Bool.Decides.{nat_tests}
@@ -23,14 +22,14 @@ number_writes made lawful encode stands key v bytes e =
     let n = weighed 256 4 key in
     let made_n = stands n (weighed_lt 256 4 key (omega arith) bytes) in
     let again : number_key n ≡ key = digits_weighed 256 4 key (omega arith) bytes ∙ filled_is 4 key (omega arith) ∙ rw full (append-nil key) in
-    subst (λ x. lawful x × (encode x ≡ key)) (read .1) (made_n.0, made_n.1 ∙ again)
+    subst (λ x. lawful x × (encode x ≡ key)) read.1 (made_n.0, made_n.1 ∙ again)
 
 pub raised_lt : (z : ℤ) → FitsSigned w32 z → raised z < 2 ^ 32
 raised_lt (pos n) h = omega (arith, ints)
 raised_lt (negsuc n) h = omega (arith, ints)
 
 pub raised_lowered : (n : ℕ) → raised (lowered n) ≡ n
-raised_lowered n = ap unsigned_abs (-ℤ-+ℤ_cancel (pos n) (pos (2 ^ 31)))
+raised_lowered n = let back : lowered n +ℤ pos (2 ^ 31) ≡ pos n = grind (arith, ints) in ap unsigned_abs back
 
 pub lowered_fits : (n : ℕ) → n < 2 ^ 32 → FitsSigned w32 (lowered n)
 lowered_fits n h = omega (arith, ints)

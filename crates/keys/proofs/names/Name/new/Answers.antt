@@ -4,12 +4,12 @@ use Rattle.keys.specs.Names.{none_zero}
 use Rattle.keys.specs.NameKeys.{new_is_name, new_answers}
 use Rattle.keys.proofs.names.Name.new.Goals as goal
 
-pub invariant-of-result : goal.invariant-of-result
-invariant-of-result c =
+pub invariant_of-result : goal.invariant_of-result
+invariant_of-result c =
     let text = c.args.text.now in
     let fits : length text ≤ 16 = omega arith in
     let whole = not-false (none_zero text) (sym c.has_zero.ensures ∙ c.if-has_zero.false) in
-    (new_is_name text c.copy_from_slice.new.self c.copy_from_slice.ensures.after fits whole, tt)
+    record { ok = new_is_name text c.copy_from_slice.new.self c.copy_from_slice.ensures.after fits whole }
 
 pub returns : goal.returns
 returns c =
