@@ -3,7 +3,7 @@ use Rattle.std.proofs.Common.{◌≡◌, ℕ, zero, suc, ◌+◌, ◌*◌, ◌/�
 use native.Mathlib.Nat.{mod-one, pow-zero, pow-succ'}
 use lib.Arith.{mod-mul}
 use Rattle.std.specs.Ordering.{ordering_reverse, ordering_then}
-use Rattle.std.specs.List.{AllByRecursion as All}
+use Rattle.std.specs.List.{AllByRecursion}
 use Rattle.std.proofs.lemmas.Bool.{cases_order}
 use Rattle.std.proofs.lemmas.Bool.Decides.{nat_tests}
 use Rattle.digits.specs.Orders.{number_order, row_order}
@@ -120,7 +120,7 @@ digits_order radix (suc k) m n h =
 pub digits_order_within : (radix k m n : ℕ) → 0 < radix → m < radix ^ k → n < radix ^ k → row_order (digits radix k m) (digits radix k n) ≡ number_order m n
 digits_order_within radix k m n h hm hn = cc (digits_order radix k m n h, mod-eq_of_lt hm, mod-eq_of_lt hn)
 
-pub unpacked_order : (radix k : ℕ) → 0 < radix → (ms ns : List ℕ) → length ms ≡ length ns → All (λ n. n < radix ^ k) ms → All (λ n. n < radix ^ k) ns → row_order (unpacked radix k ms) (unpacked radix k ns) ≡ row_order ms ns
+pub unpacked_order : (radix k : ℕ) → 0 < radix → (ms ns : List ℕ) → length ms ≡ length ns → AllByRecursion (λ n. n < radix ^ k) ms → AllByRecursion (λ n. n < radix ^ k) ns → row_order (unpacked radix k ms) (unpacked radix k ns) ≡ row_order ms ns
 unpacked_order radix k h [] [] e small small' = refl
 unpacked_order radix k h [] (n ∷ ns) e small small' = absurd (omega arith)
 unpacked_order radix k h (m ∷ ms) [] e small small' = absurd (omega arith)

@@ -2,7 +2,7 @@
 use Rattle.std.proofs.Common.{◌≡◌, ℕ, zero, suc, ◌+◌, ◌-◌, ◌*◌, ◌/◌, ◌%◌, ◌^◌, ◌<◌, ◌≤◌, false, eqb, List, [], ◌∷◌, ◌++◌, length, get_or, drop, set, replicate, sym, refl, ap, ◌∙◌, ⊎_elim, add_assoc, mul-le-mul_right, mod-lt, mod-eq_of_lt, mul_assoc, suc-mul, mul_comm, add_comm, suc-add, pow-suc, zero-add, zero-mul, arith}
 use native.Mathlib.Nat.{mul-add-div_right, mul-add-mod_self_right, one-le-pow, zero-div, zero-mod, mod-one, pow-zero}
 use lib.Arith.{digits_lt, digits_div, mod-mul}
-use Rattle.std.specs.List.{AllByRecursion as All}
+use Rattle.std.specs.List.{AllByRecursion}
 use Rattle.std.proofs.lemmas.List.{length-append, get_or_append_left, get_or-append-add, drop_at, drop-append-le, drop_all, length_push, length-drop, append_assoc, get_or_past, get_or-map, length-map, get_or-set_same}
 use Rattle.std.proofs.lemmas.Bool.{cases_lt}
 use Rattle.std.proofs.ByRecursion.{All-drop, All-append, All-push, All-get_or}
@@ -55,7 +55,7 @@ digits_of_sum radix (suc k) a n r =
     rw split (ap (λ d. d ∷ digits radix k ((a * radix) * radix ^ k + n)) head ∙ ap (λ ds. (n / radix ^ k % radix) ∷ ds) (digits_of_sum radix k (a * radix) n r))
 
 -- what digits write fits their number
-pub weighed_lt : (radix k : ℕ) (ds : List ℕ) → 0 < radix → All (λ d. d < radix) ds → weighed radix k ds < radix ^ k
+pub weighed_lt : (radix k : ℕ) (ds : List ℕ) → 0 < radix → AllByRecursion (λ d. d < radix) ds → weighed radix k ds < radix ^ k
 weighed_lt radix zero ds r h = pow_positive radix 0 r
 weighed_lt radix (suc k) [] r h = pow_positive radix (suc k) r
 weighed_lt radix (suc k) (d ∷ ds) r h = rw (pow-suc radix k, mul_comm (radix ^ k) radix) (digits_lt h.0 (weighed_lt radix k ds r h.1))
@@ -65,7 +65,7 @@ weighed_nil radix zero = refl
 weighed_nil radix (suc k) = refl
 
 -- reading digits gives back what they write
-pub digits_weighed : (radix k : ℕ) (ds : List ℕ) → 0 < radix → All (λ d. d < radix) ds → digits radix k (weighed radix k ds) ≡ filled k ds
+pub digits_weighed : (radix k : ℕ) (ds : List ℕ) → 0 < radix → AllByRecursion (λ d. d < radix) ds → digits radix k (weighed radix k ds) ≡ filled k ds
 digits_weighed radix zero ds r h = refl
 digits_weighed radix (suc k) [] r h =
     let z : 0 / radix ^ k % radix ≡ 0 = ap (λ m. m % radix) (zero-div (radix ^ k)) ∙ zero-mod radix in
@@ -95,15 +95,15 @@ pub length_packed : (radix k count : ℕ) (ds : List ℕ) → length (packed rad
 length_packed radix k zero ds = refl
 length_packed radix k (suc count) ds = ap suc (length_packed radix k count (drop k ds))
 
-pub packed_lt : (radix k count : ℕ) (ds : List ℕ) → 0 < radix → All (λ d. d < radix) ds → All (λ n. n < radix ^ k) (packed radix k count ds)
+pub packed_lt : (radix k count : ℕ) (ds : List ℕ) → 0 < radix → AllByRecursion (λ d. d < radix) ds → AllByRecursion (λ n. n < radix ^ k) (packed radix k count ds)
 packed_lt radix k zero ds r h = tt
 packed_lt radix k (suc count) ds r h = (weighed_lt radix k ds r h, packed_lt radix k count (drop k ds) r (All-drop (λ d. d < radix) k ds h))
 
-pub unpacked_lt : (radix k : ℕ) (ns : List ℕ) → 0 < radix → All (λ d. d < radix) (unpacked radix k ns)
+pub unpacked_lt : (radix k : ℕ) (ns : List ℕ) → 0 < radix → AllByRecursion (λ d. d < radix) (unpacked radix k ns)
 unpacked_lt radix k [] r = tt
 unpacked_lt radix k (n ∷ ns) r = All-append (λ d. d < radix) (digits radix k n) (unpacked radix k ns) (digits_lt_radix k) (unpacked_lt radix k ns r)
   where
-    digits_lt_radix : (j : ℕ) → All (λ d. d < radix) (digits radix j n)
+    digits_lt_radix : (j : ℕ) → AllByRecursion (λ d. d < radix) (digits radix j n)
     digits_lt_radix zero = tt
     digits_lt_radix (suc j) = (mod-lt (n / radix ^ j) r, digits_lt_radix j)
 
@@ -122,7 +122,7 @@ filled_is (suc n) [] h =
 filled_is (suc n) (d ∷ ds) h = let e : suc n - suc (length ds) ≡ n - length ds = omega arith in rw e (ap (λ es. d ∷ es) (filled_is n ds (omega arith)))
 
 -- unpacking what was packed gives the digits, filled up with zeros
-pub unpacked_packed : (radix k count : ℕ) (ds : List ℕ) → 0 < radix → All (λ d. d < radix) ds → unpacked radix k (packed radix k count ds) ≡ filled (count * k) ds
+pub unpacked_packed : (radix k count : ℕ) (ds : List ℕ) → 0 < radix → AllByRecursion (λ d. d < radix) ds → unpacked radix k (packed radix k count ds) ≡ filled (count * k) ds
 unpacked_packed radix k zero ds r h = rw (zero-mul k) refl
 unpacked_packed radix k (suc count) ds r h =
     let e : suc count * k ≡ k + count * k = suc-mul count k ∙ add_comm (count * k) k in
@@ -131,7 +131,7 @@ unpacked_packed radix k (suc count) ds r h =
     ∙ sym (filled_add k (count * k) ds) ∙ ap (λ n. filled n ds) (sym e)
 
 -- packing what was unpacked gives the numbers, if each fits its digits
-pub packed_unpacked : (radix k : ℕ) (ns : List ℕ) (rest : List ℕ) → 0 < radix → All (λ n. n < radix ^ k) ns → packed radix k (length ns) (unpacked radix k ns ++ rest) ≡ ns
+pub packed_unpacked : (radix k : ℕ) (ns : List ℕ) (rest : List ℕ) → 0 < radix → AllByRecursion (λ n. n < radix ^ k) ns → packed radix k (length ns) (unpacked radix k ns ++ rest) ≡ ns
 packed_unpacked radix k [] rest r h = refl
 packed_unpacked radix k (n ∷ ns) rest r h =
     let whole = append_assoc (digits radix k n) (unpacked radix k ns) rest in
@@ -176,7 +176,7 @@ packed_push radix k (suc count) (suc q) j ds d h l e =
     ∙ ap (λ ms. weighed radix k ds ∷ ms) (ap (packed radix k count) (drop-append-le k ds (d ∷ []) within) ∙ packed_push radix k count q j (drop k ds) d h (omega arith) rest)
 
 -- and the number still fits its digits
-pub push_fits : (radix k count q j : ℕ) (ds : List ℕ) (d : ℕ) → 0 < radix → j < k → q < count → length ds ≡ q * k + j → All (λ d. d < radix) ds → d < radix
+pub push_fits : (radix k count q j : ℕ) (ds : List ℕ) (d : ℕ) → 0 < radix → j < k → q < count → length ds ≡ q * k + j → AllByRecursion (λ d. d < radix) ds → d < radix
     → get_or (packed radix k count ds) q 0 + d * radix ^ (k - 1 - j) < radix ^ k
 push_fits radix k count q j ds d r j_fits q_fits long small d_small =
     let next = packed radix k count (ds ++ d ∷ []) in

@@ -34,7 +34,7 @@ impl MaskSource for HashSource {
 
     ghost small = { λ s. hash_masks_small s.secret };
 
-    ghost short = { Prim.search rules };
+    ghost short = { λ s. s.walk.short };
 
     fn restart(&mut self) {
         self.walk = Walk::new();

@@ -39,7 +39,7 @@ impl MaskSource for TreeSource {
 
     ghost small = { λ s. tree_masks_small s.secret };
 
-    ghost short = { first_of (Prim.search rules, Prim.grind (arith, Self.row.coded.inj)) };
+    ghost short = { λ s. s.walk.short };
 
     fn restart(&mut self) {
         self.node = self.secret;

@@ -1,6 +1,6 @@
 -- Taking in sealed keys: what is sealed can be taken in, and packing the trits of what was taken in gives it again.
 use Rattle.std.proofs.Common.{◌≡◌, ℕ, zero, suc, ◌+◌, ◌-◌, ◌*◌, ◌<◌, ◌≤◌, Bool, true, ◌&&◌, eqb, leb, List, [], ◌∷◌, ◌++◌, length, take, drop, replicate, Ok, sym, refl, ap, ◌∙◌, arith, lit<}
-use Rattle.std.specs.List.{AllByRecursion as All}
+use Rattle.std.specs.List.{AllByRecursion}
 use Rattle.std.proofs.ByRecursion.{All-append, All-take}
 use Rattle.std.proofs.lemmas.List.{append-nil, length-append, length-replicate, length-take-le, drop_all, drop-append-le, drop_at, drop-take, take-append-drop, take-replicate, replicate-append-replicate}
 use Rattle.std.proofs.lemmas.Bool.{and_from, and_parts, eqb-true, le-leb, leb-true}
@@ -17,11 +17,11 @@ use Rattle.sealing.proofs.Answering.{take_in_answer_is}
 use Rattle.sealing.specs.MaskingLemmas.{length_masked, masked_lt}
 use Rattle.sealing.specs.SealedOrder.{sealed_trits}
 
-trits_only_of : (bs : List ℕ) → All (λ b. b < 243) bs → trits_only bs ≡ true
+trits_only_of : (bs : List ℕ) → AllByRecursion (λ b. b < 243) bs → trits_only bs ≡ true
 trits_only_of [] h = refl
 trits_only_of (b ∷ bs) h = and_from (leb b 242) (trits_only bs) (le-leb b 242 (let small = h.0 in omega arith)) (trits_only_of bs h.1)
 
-trits_only_facts : (bs : List ℕ) → trits_only bs ≡ true → All (λ b. b < 243) bs
+trits_only_facts : (bs : List ℕ) → trits_only bs ≡ true → AllByRecursion (λ b. b < 243) bs
 trits_only_facts [] e = tt
 trits_only_facts (b ∷ bs) e =
     let both = and_parts (leb b 242) (trits_only bs) e in
@@ -115,7 +115,7 @@ module _ (w : ℕ) (ps : List ℕ) (k : SealedKey) (told : take_in_answer w ps �
       let upper = (served_from_test w answers.0).1 in
       let long = answers.1 in
       let bytes = ps ++ replicate (52 - length ps) 0 in
-      let small : All (λ b. b < 243) bytes = All-append (λ b. b < 243) ps (replicate (52 - length ps) 0) (trits_only_facts ps answers.2) (zeros_small (52 - length ps)) in
+      let small : AllByRecursion (λ b. b < 243) bytes = All-append (λ b. b < 243) ps (replicate (52 - length ps) 0) (trits_only_facts ps answers.2) (zeros_small (52 - length ps)) in
       let size = length_unpacked 3 5 ps in
       let split : trits bytes ≡ trits ps ++ replicate ((52 - length ps) * 5) 0 = unpacked_append 3 5 ps (replicate (52 - length ps) 0) ∙ ap (λ zs. trits ps ++ zs) (unpacked_zeros 3 5 (52 - length ps)) in
       let within : 8 * w ≤ length (trits ps) = omega arith in
@@ -130,6 +130,6 @@ module _ (w : ℕ) (ps : List ℕ) (k : SealedKey) (told : take_in_answer w ps �
       rw bytes_are
       (sym (packed_zeros 3 5 52 (take (8 * w) (trits bytes)) (length (drop (8 * w) (trits ps)) + (52 - length ps) * 5)) ∙ ap (packed 3 5 52) (sym whole) ∙ again)
     where
-      zeros_small : (n : ℕ) → All (λ b. b < 243) (replicate n 0)
+      zeros_small : (n : ℕ) → AllByRecursion (λ b. b < 243) (replicate n 0)
       zeros_small zero = tt
       zeros_small (suc n) = (lit< tt, zeros_small n)

@@ -3,7 +3,7 @@ use Rattle.std.specs.Prelude.{◌≡◌, ℕ, suc, ◌+◌, ◌-◌, ◌*◌, �
 use Rattle.std.proofs.Math.Path.{refl}
 use Rattle.std.proofs.Common.{sym, ap, ◌∙◌, mod-lt, arith, lit<}
 use mir.Val.{bool_byte}
-use Rattle.std.specs.List.{AllByRecursion as All}
+use Rattle.std.specs.List.{AllByRecursion}
 use Rattle.std.proofs.lemmas.List.{append_assoc, append-nil, take_all, take_more, length-take-le}
 use Rattle.digits.specs.Positional.{bits, packed}
 use Rattle.digits.proofs.Packing.{packed_push, push_fits, length_bits}
@@ -20,7 +20,7 @@ module _ (f : List Bool → ℕ) where
   length_masked before [] = refl
   length_masked before (x ∷ xs) = ap suc (length_masked (before ++ x ∷ []) xs)
 
-  pub masked_lt : (before xs : List Bool) → All (λ t. t < 3) (masked f before xs)
+  pub masked_lt : (before xs : List Bool) → AllByRecursion (λ t. t < 3) (masked f before xs)
   masked_lt before [] = tt
   masked_lt before (x ∷ xs) = (mod-lt (f before + bool_byte x) (lit< tt), masked_lt (before ++ x ∷ []) xs)
 

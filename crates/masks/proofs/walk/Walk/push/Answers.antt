@@ -13,12 +13,12 @@ returns c =
     let room = room_left walk.text walk.exact walk.short c.if-len.false in
     record { answer = rw room; list = rw room (walked_bits_pushed walk.text walk.exact walk.short c.if-len.false c.args.bit) }
 
-pub invariant-of-self : goal.invariant-of-self
-invariant-of-self c =
+pub invariant_of-self : goal.invariant_of-self
+invariant_of-self c =
     let walk = c.args.self.now in
     let exact = pushed_exact walk.text walk.exact walk.short c.if-len.false c.args.bit in
     let short = pushed_short walk.text walk.exact walk.short c.if-len.false c.args.bit in
-    (exact, (short, tt))
+    record { exact = exact; short = short }
 
 pub overflow_add-self-2 : goal.overflow_add-self-2
 overflow_add-self-2 c =

@@ -1,8 +1,8 @@
 use Rattle.tree.proofs.Soundness.{new_means}
 use Rattle.tree.proofs.trees.Tree.new.Goals as goal
 
-pub invariant-of-result : goal.invariant-of-result
-invariant-of-result g c = ((new_means c.args.nodes.now).sound, tt)
+pub invariant_of-result : goal.invariant_of-result
+invariant_of-result g c = ((new_means c.args.nodes.now).sound, tt)
 
 pub returns : goal.returns
 returns g c = (new_means c.args.nodes.now).model
