@@ -17,11 +17,11 @@ pub fn open<S: MaskSource, K: KeyKind>(
     key: &SealedKey,
     scratch: &mut [u8],
 ) -> Result<K, Refusal>
-    ensures answer { numbered result ≡ open_answer (masks source.old) K.KeyKind.width K.KeyKind.decode (length scratch.old) key.now }
-    ensures exactly { OpensExactly K.KeyKind.width K.OrderedKey.lawful K.KeyKind.encode (masks source.old) (length scratch.old) key.now (numbered result) }
+    ensures answer { numbered result ≡ open_answer (S.masks source.old) K.KeyKind.width K.KeyKind.decode (length scratch.old) key.now }
+    ensures exactly { OpensExactly K.KeyKind.width K.OrderedKey.lawful K.KeyKind.encode (S.masks source.old) (length scratch.old) key.now (numbered result) }
     ensures wiped { scratch.new ≡ replicate (length scratch.old) 0 }
-    ensures same_masks { masks source.new ≡ masks source.old }
-    ensures restarted { walked source.new ≡ [] }
+    ensures same_masks { S.masks source.new ≡ S.masks source.old }
+    ensures restarted { S.walked source.new ≡ [] }
 {
     let guard = Scratch(scratch);
     source.restart();
@@ -36,9 +36,9 @@ fn open_key<S: MaskSource, K: KeyKind>(
     key: &SealedKey,
     scratch: &mut [u8],
 ) -> Result<K, Refusal>
-    requires { walked source.old ≡ [] }
-    ensures answer { numbered result ≡ open_answer (masks source.old) K.KeyKind.width K.KeyKind.decode (length scratch.old) key.now }
-    ensures same_masks { masks source.new ≡ masks source.old }
+    requires { S.walked source.old ≡ [] }
+    ensures answer { numbered result ≡ open_answer (S.masks source.old) K.KeyKind.width K.KeyKind.decode (length scratch.old) key.now }
+    ensures same_masks { S.masks source.new ≡ S.masks source.old }
 {
     let width = K::width();
     if width < 1 || width > 32 {
@@ -60,11 +60,11 @@ fn open_bytes<S: MaskSource>(
     sealed: &[u8; 52],
     key: &mut [u8],
 ) -> Result<(), Refusal>
-    requires start { walked source.old ≡ [] }
+    requires start { S.walked source.old ≡ [] }
     requires served { length key.old ≤ 32 }
-    ensures answer { numbered result ≡ found_answer (unmasked (masks source.old) [] (take (8 * length key.old) (trits sealed.now))) }
-    ensures left { FoundLeft (unmasked (masks source.old) [] (take (8 * length key.old) (trits sealed.now))) key.new }
-    ensures same_masks { masks source.new ≡ masks source.old }
+    ensures answer { numbered result ≡ found_answer (unmasked (S.masks source.old) [] (take (8 * length key.old) (trits sealed.now))) }
+    ensures left { FoundLeft (unmasked (S.masks source.old) [] (take (8 * length key.old) (trits sealed.now))) key.new }
+    ensures same_masks { S.masks source.new ≡ S.masks source.old }
 {
     key.fill(0);
     let end = 8 * key.len();

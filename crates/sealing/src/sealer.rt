@@ -17,11 +17,11 @@ pub fn seal<S: MaskSource, K: KeyKind>(
     value: &K,
     scratch: &mut [u8],
 ) -> Result<SealedKey, Refusal>
-    ensures answer { numbered result ≡ seal_answer (masks source.old) K.KeyKind.width (length scratch.old) (encode value.now) }
-    ensures in_order { SealsInOrder K.OrderedKey.order K.OrderedKey.lawful K.KeyKind.encode (masks source.old) value.now (numbered result) }
+    ensures answer { numbered result ≡ seal_answer (S.masks source.old) K.KeyKind.width (length scratch.old) (K.KeyKind.encode value.now) }
+    ensures in_order { SealsInOrder K.OrderedKey.order K.OrderedKey.lawful K.KeyKind.encode (S.masks source.old) value.now (numbered result) }
     ensures wiped { scratch.new ≡ replicate (length scratch.old) 0 }
-    ensures same_masks { masks source.new ≡ masks source.old }
-    ensures restarted { walked source.new ≡ [] }
+    ensures same_masks { S.masks source.new ≡ S.masks source.old }
+    ensures restarted { S.walked source.new ≡ [] }
 {
     let guard = Scratch(scratch);
     source.restart();
@@ -37,10 +37,10 @@ fn seal_value<S: MaskSource, K: KeyKind>(
     value: &K,
     scratch: &mut [u8],
 ) -> Result<SealedKey, Refusal>
-    requires start { walked source.old ≡ [] }
+    requires start { S.walked source.old ≡ [] }
     requires lawful { K.OrderedKey.lawful value.now }
-    ensures answer { numbered result ≡ seal_answer (masks source.old) K.KeyKind.width (length scratch.old) (encode value.now) }
-    ensures same_masks { masks source.new ≡ masks source.old }
+    ensures answer { numbered result ≡ seal_answer (S.masks source.old) K.KeyKind.width (length scratch.old) (K.KeyKind.encode value.now) }
+    ensures same_masks { S.masks source.new ≡ S.masks source.old }
 {
     let width = K::width();
     if width < 1 || width > 32 {
@@ -56,10 +56,10 @@ fn seal_value<S: MaskSource, K: KeyKind>(
 
 // The packed trits of key bytes, whose bits the source walks along, the last one excepted.
 fn seal_bytes<S: MaskSource>(source: &mut S, key: &[u8]) -> Result<[u8; 52], Refusal>
-    requires start { walked source.old ≡ [] }
+    requires start { S.walked source.old ≡ [] }
     requires served { length key.now ≤ 32 }
-    ensures answer { numbered result ≡ Ok (packed_trits (masked (masks source.old) [] (bits key.now))) }
-    ensures same_masks { masks source.new ≡ masks source.old }
+    ensures answer { numbered result ≡ Ok (packed_trits (masked (S.masks source.old) [] (bits key.now))) }
+    ensures same_masks { S.masks source.new ≡ S.masks source.old }
 {
     let mut trits = [0u8; 52];
     let end = 8 * key.len();
