@@ -2,7 +2,7 @@
 use Rattle.std.proofs.Common.{◌≡◌, ℕ, ◌<◌, ltb, List, [], ◌∷◌, map, IfSome, Some, None, Ok, Err, Option, Result, Ordering, refl, inr}
 use Rattle.std.proofs.lemmas.Bool.{cond_both, ltb-true}
 use Rattle.std.proofs.ByRecursion.{all_has_itself}
-use Rattle.std.specs.List.{ContainsAt as Has, AllByRecursion as All}
+use Rattle.std.specs.List.{ContainsAt as Has, AllByRecursion}
 use Rattle.books.specs.declared.entries.Entry.{Entry}
 use Rattle.books.specs.Calls.{Call, Add, Take, Find, SeekFrom, SeekAfter, Found, Sought, refused}
 use Rattle.books.specs.Plain.{add_answer, take_answer, where_ok}
@@ -46,10 +46,10 @@ pub sought_held : {K : Type 0} (found : Option (Entry K)) (pairs : List (Option 
 sought_held None pairs p = tt
 sought_held (Some e) pairs p = p
 
-all_unmap : {X Y : Type 0} (P : Y → Type 0) (f : X → Y) (xs : List X) → All P (map f xs) → All (λ x. P (f x)) xs
+all_unmap : {X Y : Type 0} (P : Y → Type 0) (f : X → Y) (xs : List X) → AllByRecursion P (map f xs) → AllByRecursion (λ x. P (f x)) xs
 all_unmap P f [] p = tt
 all_unmap P f (x ∷ xs) p = (p.0, all_unmap P f xs p.1)
 
 -- each pair of a list is held
-pub all_held : {K : Type 0} (es : List (Entry K)) → All (λ e. Has (map known es) (known e)) es
+pub all_held : {K : Type 0} (es : List (Entry K)) → AllByRecursion (λ e. Has (map known es) (known e)) es
 all_held es = all_unmap (Has (map known es)) known es (all_has_itself (map known es))

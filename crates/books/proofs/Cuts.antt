@@ -1,7 +1,7 @@
 -- The plain calls on a list in two parts: what stands before the key asked for is passed over, what stands past it is not looked at.
 use Rattle.std.proofs.Common.{◌≡◌, ℕ, suc, Bool, true, false, cond, List, [], ◌∷◌, ◌++◌, map, length, Some, None, Option, Ordering, Less, Equal, Greater, sym, refl, ap, ◌∙◌, subst, append_assoc, arith, length-append}
 use mathlib.Core.List.{map-append}
-use Rattle.std.specs.List.{ContainsAt as Has, AllByRecursion as All}
+use Rattle.std.specs.List.{ContainsAt as Has, AllByRecursion}
 use Rattle.std.proofs.ByRecursion.{All-append, has_append_right}
 use Rattle.std.specs.Option.{option_or}
 use Rattle.std.specs.Ordering.{ordering_reverse}
@@ -11,11 +11,11 @@ use Rattle.books.specs.Meaning.{known, Before, Ascending, GoodOrder, OneMore}
 
 -- what holds of each element of two lists in a row, holds of each element of either
 module _ {X : Type 0} (P : X → Type 0) where
-  pub all_left : (xs ys : List X) → All P (xs ++ ys) → All P xs
+  pub all_left : (xs ys : List X) → AllByRecursion P (xs ++ ys) → AllByRecursion P xs
   all_left [] ys p = tt
   all_left (x ∷ xs) ys p = (p.0, all_left xs ys p.1)
 
-  pub all_right : (xs ys : List X) → All P (xs ++ ys) → All P ys
+  pub all_right : (xs ys : List X) → AllByRecursion P (xs ++ ys) → AllByRecursion P ys
   all_right [] ys p = p
   all_right (x ∷ xs) ys p = all_right xs ys p.1
 
@@ -62,15 +62,15 @@ module _ {X : Type 0} (x : X) (fewer more : List X) (m : OneMore x fewer more) w
   pub more_has : Has more x
   more_has = subst (λ l. Has l x) (sym m.with_it) (has_append_right m.front (x ∷ m.back) x (0, omega arith, λ d. refl))
 
-  pub all_with : (P : X → Type 0) → P x → All P fewer → All P more
+  pub all_with : (P : X → Type 0) → P x → AllByRecursion P fewer → AllByRecursion P more
   all_with P p q =
-      let r = subst (All P) m.without q in
-      subst (All P) (sym m.with_it) (All-append P m.front (x ∷ m.back) (all_left P m.front m.back r) (p, all_right P m.front m.back r))
+      let r = subst (AllByRecursion P) m.without q in
+      subst (AllByRecursion P) (sym m.with_it) (All-append P m.front (x ∷ m.back) (all_left P m.front m.back r) (p, all_right P m.front m.back r))
 
-  pub all_without : (P : X → Type 0) → All P more → All P fewer
+  pub all_without : (P : X → Type 0) → AllByRecursion P more → AllByRecursion P fewer
   all_without P q =
-      let r = subst (All P) m.with_it q in
-      subst (All P) (sym m.without) (All-append P m.front m.back (all_left P m.front (x ∷ m.back) r) (all_right P m.front (x ∷ m.back) r).1)
+      let r = subst (AllByRecursion P) m.with_it q in
+      subst (AllByRecursion P) (sym m.without) (All-append P m.front m.back (all_left P m.front (x ∷ m.back) r) (all_right P m.front (x ∷ m.back) r).1)
 
 -- pairs that are shown alike are the same
 pub known_same : {K : Type 0} (xs ys : List (Entry K)) → map known xs ≡ map known ys → xs ≡ ys
@@ -95,7 +95,7 @@ by_all P Greater a b c = c
 
 -- s compares so with each key
 abbrev pub Compares : {K : Type 0} → (K → K → Ordering) → K → Ordering → List (Entry K) → Type 0
-Compares order s w es = All (λ e. order s e.key ≡ w) es
+Compares order s w es = AllByRecursion (λ e. order s e.key ≡ w) es
 
 -- past the first key that s is not greater than, s is less than all
 abbrev pub Cut : {K : Type 0} → (K → K → Ordering) → K → List (Entry K) → Type 0
@@ -204,16 +204,16 @@ pub record FamilyLaws {K : Type 0} (order : K → K → Ordering) (P : K → Typ
   pub same : (a b : K) → P a → P b → order a b ≡ Equal → a ≡ b
 
 module _ {K : Type 0} (order : K → K → Ordering) (P : K → Type 0) (law : FamilyLaws order P) where
-  before_next : (s k : K) (es : List (Entry K)) → P s → P k → All (λ e. P e.key) es → order s k ≡ Less → Before order k es → Before order s es
+  before_next : (s k : K) (es : List (Entry K)) → P s → P k → AllByRecursion (λ e. P e.key) es → order s k ≡ Less → Before order k es → Before order s es
   before_next s k [] ps pk pl h b = tt
   before_next s k (e ∷ es) ps pk pl h b = law.chains s k e.key ps pk pl.0 h b
 
   -- a key less than the first of ascending keys is less than all
-  pub before_all : (s : K) (es : List (Entry K)) → P s → All (λ e. P e.key) es → Before order s es → Ascending order es → Compares order s Less es
+  pub before_all : (s : K) (es : List (Entry K)) → P s → AllByRecursion (λ e. P e.key) es → Before order s es → Ascending order es → Compares order s Less es
   before_all s [] ps pl b a = tt
   before_all s (e ∷ es) ps pl b a = (b, before_all s es ps pl.1 (before_next s e.key es ps pl.0 pl.1 b a.0) a.1)
 
-  ascending_cut : (s : K) (es : List (Entry K)) → P s → All (λ e. P e.key) es → Ascending order es → Cut order s es
+  ascending_cut : (s : K) (es : List (Entry K)) → P s → AllByRecursion (λ e. P e.key) es → Ascending order es → Cut order s es
   ascending_cut s [] ps pl a = tt
   ascending_cut s (e ∷ es) ps pl a = (λ n. before_all s es ps pl.1 (by (order s e.key) refl n) a.1, ascending_cut s es ps pl.1 a.1)
     where

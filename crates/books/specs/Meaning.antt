@@ -2,7 +2,7 @@
 use Rattle.std.specs.Prelude.{◌≡◌, ℕ, ◌^◌, ◌<◌, cond, ◌⊎◌, List, [], ◌∷◌, ◌++◌, map, Some, None, Ok, Err, Option, nat_le}
 use Rattle.std.specs.declared.cmp.Ordering.TheVariants.{Less}
 use Rattle.std.specs.declared.cmp.Ordering.{Ordering}
-use Rattle.std.specs.List.{ContainsAt as Has, AllByRecursion as All}
+use Rattle.std.specs.List.{ContainsAt as Has, AllByRecursion}
 use Rattle.keys.specs.declared.orders.OrderedKey.{Ghosts as KeyGhosts}
 use Rattle.books.specs.declared.entries.Entry.{Entry}
 use Rattle.books.specs.Calls.{Call, Add, Take, Find, SeekFrom, SeekAfter, Answer, Added, Taken, Found, Sought, call_key, refused}
@@ -24,7 +24,7 @@ Ascending order (e ∷ es) = Before order e.key es × Ascending order es
 
 -- good order: the keys ascend, and all lie in one family
 pub record GoodOrder {K I : Type 0} (order : K → K → Ordering) (family : I → K → Type 0) (i : I) (es : List (Entry K)) : Type 0 where
-  pub related : All (λ e. family i e.key) es
+  pub related : AllByRecursion (λ e. family i e.key) es
   pub ascending : Ascending order es
 
 -- the list `more` is `fewer` with one x more, somewhere

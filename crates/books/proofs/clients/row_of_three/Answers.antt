@@ -32,7 +32,7 @@ returns c =
     let two = entry (count 20) 2 in
     let three = entry (count 30) 3 in
     -- the row before each call
-    let at_first = c.new_row.ensures in
+    let at_first = c.new-row.ensures in
     let after_added = left (Add (count 20) 2) (row []) at_first c.add-added.ensures.left in
     let after_one = left (Add (count 10) 1) (row (two ∷ [])) after_added c.add.ensures.left in
     let after_again = left (Add (count 20) 9) (row (one ∷ two ∷ [])) after_one c.add-again.ensures.left in
