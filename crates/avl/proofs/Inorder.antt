@@ -2,7 +2,7 @@
 use Rattle.std.proofs.Common.{◌≡◌, ℕ, Bool, ltb, List, [], ◌∷◌, ◌++◌, length, IfSome, Some, None, Option, Ordering, Less, Equal, Greater, sym, refl, ap, ◌∙◌, subst, append_assoc, append-nil, arith, length-append}
 use Rattle.std.proofs.lemmas.Bool.{cond_both}
 use Rattle.std.specs.Option.{option_or}
-use Rattle.std.specs.List.{AllByRecursion as All}
+use Rattle.std.specs.List.{AllByRecursion}
 use Rattle.books.specs.declared.entries.Entry.{Entry}
 use Rattle.books.specs.Plain.{by_order, entry, look, put, take_out, first}
 use Rattle.books.specs.Meaning.{OneMore}
@@ -150,7 +150,7 @@ module _ {K : Type 0} (order : K → K → Ordering) (s : K) where
       by Greater e x y = loses_right (λ i k v. i) n i k v a b (remove order b s) (y e)
 
   -- what holds of each ticket holds of one that is found
-  pub find_all : (P : ℕ → Type 0) (t : Avl K) → All (λ e. P e.ticket) (entries t) → IfSome (find order t s) P
+  pub find_all : (P : ℕ → Type 0) (t : Avl K) → AllByRecursion (λ e. P e.ticket) (entries t) → IfSome (find order t s) P
   find_all P tip p = tt
   find_all P (fork i k v a b) p =
       let right = all_right (λ e. P e.ticket) (entries a) (entry k v ∷ entries b) p in
@@ -158,7 +158,7 @@ module _ {K : Type 0} (order : K → K → Ordering) (s : K) where
       (find_all P a (all_left (λ e. P e.ticket) (entries a) (entry k v ∷ entries b) p)) right.0 (find_all P b right.1)
 
   -- what holds of each pair holds of one that a seek answers
-  pub seek_all : (after : Bool) (P : Entry K → Type 0) (t : Avl K) → All P (entries t) → IfSome (seek after order t s) P
+  pub seek_all : (after : Bool) (P : Entry K → Type 0) (t : Avl K) → AllByRecursion P (entries t) → IfSome (seek after order t s) P
   seek_all after P tip p = tt
   seek_all after P (fork i k v a b) p =
       let left = seek_all after P a (all_left P (entries a) (entry k v ∷ entries b) p) in

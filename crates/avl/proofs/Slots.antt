@@ -2,7 +2,7 @@
 use Rattle.std.proofs.Common.{◌≡◌, ℕ, zero, suc, ◌<◌, ◌≤◌, ◌⊎◌, List, [], ◌∷◌, ◌++◌, length, Some, None, Ordering, Less, Equal, Greater, sym, refl, subst, inl, inr, arith}
 use Rattle.std.proofs.lemmas.Bool.{cases_eq}
 use Rattle.std.proofs.ByRecursion.{All-append, All-weaker}
-use Rattle.std.specs.List.{AllByRecursion as All}
+use Rattle.std.specs.List.{AllByRecursion}
 use Rattle.books.specs.Plain.{by_order}
 use Rattle.books.specs.Meaning.{OneMore}
 use Rattle.books.proofs.Cuts.{all_left, all_right, more_here, more_cons, more_length, all_without}
@@ -37,7 +37,7 @@ distinct_less j fewer more m d =
 pub record Split (xs ys : List ℕ) : Type 0 where
   pub left : Distinct xs
   pub right : Distinct ys
-  pub left_right : All (λ j. Apart j ys) xs
+  pub left_right : AllByRecursion (λ j. Apart j ys) xs
 
 pub split : (xs ys : List ℕ) → Distinct (xs ++ ys) → Split xs ys
 split [] ys d = record { left = tt; right = d; left_right = tt }
@@ -45,7 +45,7 @@ split (i ∷ xs) ys d =
     let r = split xs ys d.1 in
     record { left = (all_left (λ k. i ≡ k → ⊥) xs ys d.0, r.left); right = r.right; left_right = (all_right (λ k. i ≡ k → ⊥) xs ys d.0, r.left_right) }
 
-pub crossed : (xs ys : List ℕ) → All (λ j. Apart j ys) xs → All (λ j. Apart j xs) ys
+pub crossed : (xs ys : List ℕ) → AllByRecursion (λ j. Apart j ys) xs → AllByRecursion (λ j. Apart j xs) ys
 crossed xs [] p = tt
 crossed xs (y ∷ ys) p =
     (All-weaker (λ j. Apart j (y ∷ ys)) (λ j. y ≡ j → ⊥) (λ j q e. q.0 (sym e)) xs p, crossed xs ys (All-weaker (λ j. Apart j (y ∷ ys)) (λ j. Apart j ys) (λ j q. q.1) xs p))
@@ -56,8 +56,8 @@ pub record Sides {K : Type 0} (i : ℕ) (a b : Avl K) : Type 0 where
   pub off_right : Apart i (slots b)
   pub left : Distinct (slots a)
   pub right : Distinct (slots b)
-  pub left_right : All (λ j. Apart j (slots b)) (slots a)
-  pub right_left : All (λ j. Apart j (slots a)) (slots b)
+  pub left_right : AllByRecursion (λ j. Apart j (slots b)) (slots a)
+  pub right_left : AllByRecursion (λ j. Apart j (slots a)) (slots b)
 
 pub sides : {K : Type 0} (i : ℕ) (k : K) (v : ℕ) (a b : Avl K) → Distinct (slots (fork i k v a b)) → Sides i a b
 sides i k v a b d =
@@ -112,17 +112,17 @@ held_or_apart j (i ∷ l) = by (cases_eq j i) (held_or_apart j l)
     by (inr n) (inl m) = inl (i ∷ m.0, more_cons j i m.0 l m.1)
     by (inr n) (inr p) = inr (n, p)
 
-all_below : (n : ℕ) (l : List ℕ) → Apart n l → All (λ i. i < suc n) l → All (λ i. i < n) l
+all_below : (n : ℕ) (l : List ℕ) → Apart n l → AllByRecursion (λ i. i < suc n) l → AllByRecursion (λ i. i < n) l
 all_below n [] p q = tt
 all_below n (i ∷ l) p q = (let h = p.0 in let k = q.0 in omega arith, all_below n l p.1 q.1)
 
 -- there are no more than n distinct numbers below n
-few_below : (n : ℕ) (l : List ℕ) → Distinct l → All (λ i. i < n) l → length l ≤ n
+few_below : (n : ℕ) (l : List ℕ) → Distinct l → AllByRecursion (λ i. i < n) l → length l ≤ n
 few_below zero [] d p = omega arith
 few_below zero (i ∷ l) d p = absurd (let h = p.0 in omega arith)
 few_below (suc n) l d p = by (few_below n) (held_or_apart n l)
   where
-    by : ((l : List ℕ) → Distinct l → All (λ i. i < n) l → length l ≤ n) → (((fewer : List ℕ) × OneMore n fewer l) ⊎ Apart n l) → length l ≤ suc n
+    by : ((l : List ℕ) → Distinct l → AllByRecursion (λ i. i < n) l → length l ≤ n) → (((fewer : List ℕ) × OneMore n fewer l) ⊎ Apart n l) → length l ≤ suc n
     by few (inl m) =
         let r = distinct_less n m.0 l m.1 d in
         let h = more_length n m.0 l m.1 in
@@ -131,5 +131,5 @@ few_below (suc n) l d p = by (few_below n) (held_or_apart n l)
     by few (inr a) = let k = few l d (all_below n l a p) in omega arith
 
 -- n distinct numbers below n are all the numbers below n
-pub none_apart : (l : List ℕ) → Distinct l → All (λ i. i < length l) l → (j : ℕ) → j < length l → Apart j l → ⊥
+pub none_apart : (l : List ℕ) → Distinct l → AllByRecursion (λ i. i < length l) l → (j : ℕ) → j < length l → Apart j l → ⊥
 none_apart l d p j h a = let k = few_below (length l) (j ∷ l) (a, d) (h, p) in omega arith

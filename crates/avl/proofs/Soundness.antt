@@ -2,7 +2,7 @@
 use Rattle.std.proofs.Common.{◌≡◌, ℕ, suc, ◌+◌, ◌<◌, ◌≤◌, true, false, eqb, ◌⊎◌, List, [], ◌∷◌, ◌++◌, length, Some, None, Ordering, sym, refl, subst, inl, inr, arith, length-append}
 use Rattle.std.proofs.lemmas.Bool.{cases_lt, cond_both}
 use Rattle.std.proofs.ByRecursion.{All-append, all-has, All-weaker}
-use Rattle.std.specs.List.{ContainsAt as Has, AllByRecursion as All}
+use Rattle.std.specs.List.{ContainsAt as Has, AllByRecursion}
 use Rattle.books.specs.Calls.{Call, Add, Take, Find, SeekFrom, SeekAfter, refused}
 use Rattle.books.specs.Plain.{where_ok}
 use Rattle.books.specs.Meaning.{OneMore}
@@ -18,7 +18,7 @@ use Rattle.avl.proofs.Slots.{distinct_more, distinct_less, split, insert_slots, 
 -- distinct slots, all used before
 record LinedUp (fresh : ℕ) (l : List ℕ) : Type 0 where
   distinct : Distinct l
-  below : All (λ i. i < fresh) l
+  below : AllByRecursion (λ i. i < fresh) l
 
 -- a slot goes from one place to another, as from the tree to the free ones
 moved : (j fresh : ℕ) (rest from into : List ℕ) → OneMore j rest from → OneMore j rest into → LinedUp fresh from → LinedUp fresh into
@@ -82,7 +82,7 @@ module _ {K : Type 0} (order : K → K → Ordering) where
       record {
         balanced = (remove_balanced order m.tree k s.balanced).balanced;
         distinct = subst (λ free. Distinct (rest ++ free)) free_is l.distinct;
-        below = subst (λ free. All (λ i. i < m.fresh) (rest ++ free)) free_is l.below;
+        below = subst (λ free. AllByRecursion (λ i. i < m.fresh) (rest ++ free)) free_is l.below;
         all_used = subst (λ free. size (remove order m.tree k) + length free ≡ m.fresh) free_is (omega arith);
         within = s.within;
         few = s.few;
@@ -128,7 +128,7 @@ one_place m s j = record {
     by (inr p) (inl h) known = inr (inl (more_has j h.0 m.free h.1))
     by (inr p) (inr q) (inr le) = inr (inr le)
     by (inr p) (inr q) (inl lt) =
-        absurd (none_apart (slots m.tree ++ m.free) s.distinct (subst (λ n. All (λ i. i < n) (slots m.tree ++ m.free)) (sym count) s.below) j
+        absurd (none_apart (slots m.tree ++ m.free) s.distinct (subst (λ n. AllByRecursion (λ i. i < n) (slots m.tree ++ m.free)) (sym count) s.below) j
         (let c = count in omega arith) (All-append (λ i. j ≡ i → ⊥) (slots m.tree) m.free p q))
 
 pub stays_sound : (K : Type 0) → StaysSound K

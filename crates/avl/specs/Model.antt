@@ -1,7 +1,7 @@
 -- A tree in its slots: what each call answers and leaves, in good order and out of it.
 use Rattle.std.specs.Prelude.{◌≡◌, ℕ, suc, ◌+◌, ◌<◌, ◌≤◌, true, false, cond, List, [], ◌∷◌, ◌++◌, length, Some, None, Ok, Option, ◌==◌, ◌≢◌}
 use Rattle.std.specs.declared.cmp.Ordering.{Ordering}
-use Rattle.std.specs.List.{AllByRecursion as All}
+use Rattle.std.specs.List.{AllByRecursion}
 use Rattle.books.specs.Calls.{Call, Add, Take, Find, SeekFrom, SeekAfter, Answer, Added, Taken, Found, Sought, refused}
 use Rattle.books.specs.Plain.{add_answer, take_answer, where_ok}
 use Rattle.avl.specs.Avl.{Avl, tip, size, Balanced, slots, insert, remove, freed, find, seek, path, relabel}
@@ -79,7 +79,7 @@ abbrev pub new_tree : {K : Type 0} → ℕ → TreeModel K
 new_tree room = record { tree = tip; free = []; fresh = 0; room = room; comparisons = 0 }
 
 abbrev pub Apart : ℕ → List ℕ → Type 0
-Apart j l = All (λ i. j ≢ i) l
+Apart j l = AllByRecursion (λ i. j ≢ i) l
 
 abbrev pub Distinct : List ℕ → Type 0
 Distinct [] = Unit {0}
@@ -89,7 +89,7 @@ Distinct (i ∷ l) = Apart i l × Distinct l
 pub record Sound {K : Type 0} (m : TreeModel K) : Type 0 where
   pub balanced : Balanced m.tree
   pub distinct : Distinct (slots m.tree ++ m.free)
-  pub below : All (λ i. i < m.fresh) (slots m.tree ++ m.free)
+  pub below : AllByRecursion (λ i. i < m.fresh) (slots m.tree ++ m.free)
   pub all_used : size m.tree + length m.free ≡ m.fresh
   pub within : m.fresh ≤ m.room
   pub few : m.room ≤ 65535
