@@ -1,6 +1,6 @@
 -- An accepted add leaves the grown tree, and a refused one alters nothing but the count of comparisons.
 use Rattle.std.proofs.Common.{◌≡◌, ℕ, suc, ◌+◌, ◌≤◌, Bool, true, false, not, ltb, List, [], ◌∷◌, ◌++◌, length, is_some, Some, None, Ok, Err, Option, Ordering, sym, refl, ap, ◌∙◌, subst, arith}
-use Rattle.std.specs.List.{slice_get, AllByRecursion as All}
+use Rattle.std.specs.List.{slice_get, AllByRecursion}
 use Rattle.std.proofs.ByRecursion.{All-weaker}
 use Rattle.keys.specs.Refusals.{numbered, refusal_number, asked}
 use Rattle.keys.specs.declared.refusals.Refusal.{Refusal}
@@ -24,7 +24,7 @@ use Rattle.tree.proofs.Spots.{can_grow}
 use Rattle.tree.proofs.Steps.{chain_still, CallDone, done_so, done, counted_done, served_is}
 
 -- no slot that stays free is the new node's, or in the tree
-stays_free : (held free : List ℕ) (fresh : ℕ) → Distinct (held ++ free) → All (λ j. Apart j (next_slot free fresh ∷ held)) (free_after free)
+stays_free : (held free : List ℕ) (fresh : ℕ) → Distinct (held ++ free) → AllByRecursion (λ j. Apart j (next_slot free fresh ∷ held)) (free_after free)
 stays_free held [] fresh d = tt
 stays_free held (i ∷ free) fresh d =
     let parts = split held (i ∷ free) d in

@@ -1,6 +1,6 @@
 -- Nodes written over their sides, and rotations: what each step asks, and what it leaves.
 use Rattle.std.proofs.Common.{◌≡◌, ℕ, suc, ◌+◌, ◌<◌, ◌≤◌, max, List, ◌∷◌, ◌++◌, length, get_or, set, Some, sym, refl, ap, ◌∙◌, subst, arith}
-use Rattle.std.specs.List.{slice_get, AllByRecursion as All}
+use Rattle.std.specs.List.{slice_get, AllByRecursion}
 use Rattle.std.proofs.ByRecursion.{All-weaker}
 use Rattle.std.proofs.lemmas.Option.{slice_get_read}
 use Rattle.avl.specs.Avl.{Avl, fork, height, slots, turn_right, turn_left}
@@ -52,7 +52,7 @@ both_steps nodes mid after used later all at top t u r s off = record { stands =
 
 -- one side of a node was reshaped, and its other side u stands as it stood: the node's slot can be the node over both again
 module _ {K : Type 0} (limit : ℕ) (nodes mid : List (Node K)) (i : ℕ) (used : List ℕ) (at other : Link) (t u : Avl K)
-    (r : Reshaped nodes mid used at t) (s : Stands nodes other u) (apart : All (λ m. Apart m used) (slots u))
+    (r : Reshaped nodes mid used at t) (s : Stands nodes other u) (apart : AllByRecursion (λ m. Apart m used) (slots u))
     (kept : length mid ≡ length nodes) (within : i < length nodes) (low : height t ≤ limit) (other_low : height u ≤ limit) where
   pub joins_left : Distinct (slots t ++ (i ∷ slots u)) → Joining limit mid i at other t u
   joins_left d = record { left_stands = r.stands; right_stands = stands_apart nodes mid used other u r.frame apart s; distinct = d; within = omega arith; left_low = low; right_low = other_low }

@@ -1,7 +1,7 @@
 -- The test that a tree carries as its invariant, and what it says, both ways.
 use Rattle.std.proofs.Common.{◌≡◌, ℕ, zero, suc, ◌<◌, ◌≤◌, max, Bool, true, not, ◌&&◌, eqb, ltb, leb, List, [], ◌∷◌, length, Some, None, Decides, Option, sym, refl, ap, ◌∙◌, subst, arith}
-use Rattle.std.specs.List.{slice_get, AllByRecursion as All}
-use Rattle.std.proofs.lemmas.Bool.{and_parts, and_from, eqb-true, eq-eqb, leb-true, le-leb, cond_both}
+use Rattle.std.specs.List.{slice_get, AllByRecursion}
+use Rattle.std.proofs.lemmas.Bool.{and_parts, and_from, eqb-true, eq-eqb, leb-true, le-leb}
 use Rattle.std.proofs.lemmas.Bool.Decides.{Decides-eqb, Decides-ltb, Decides-not, Decides-and, Decides-like}
 use Rattle.std.proofs.ByRecursion.{Decides-by_and}
 use Rattle.books.specs.Meaning.{usable}
@@ -30,7 +30,7 @@ decides_distinct : (l : List ℕ) → Decides (distinct l) (Distinct l)
 decides_distinct [] = (λ _. tt, λ _. refl)
 decides_distinct (i ∷ l) = Decides-and (apart i l) (distinct l) (decides_apart i l) (decides_distinct l)
 
-decides_below : (n : ℕ) (l : List ℕ) → Decides (all_below n l) (All (λ i. i < n) l)
+decides_below : (n : ℕ) (l : List ℕ) → Decides (all_below n l) (AllByRecursion (λ i. i < n) l)
 decides_below n = Decides-by_and (λ i. ltb i n) (λ i. i < n) (all_below n) (λ i. Decides-ltb i n) refl (λ _ _. refl)
 
 decides_link : (a b : Link) → Decides (same_link a b) (a ≡ b)

@@ -1,6 +1,6 @@
 -- The slot for a new node: what is found of it, and that the tree can grow into it.
 use Rattle.std.proofs.Common.{◌≡◌, ℕ, suc, ◌+◌, ◌<◌, ◌≤◌, true, false, ltb, leb, ◌⊎◌, List, [], ◌∷◌, ◌++◌, length, get_or, sym, refl, ap, ◌∙◌, subst, inl, inr, arith}
-use Rattle.std.specs.List.{AllByRecursion as All}
+use Rattle.std.specs.List.{AllByRecursion}
 use Rattle.std.proofs.ByRecursion.{All-weaker}
 use Rattle.std.proofs.lemmas.Option.{slice_get-get_or}
 use Rattle.std.proofs.lemmas.Bool.{ltb-true, ltb-false, cond_both, cases_Bool}
@@ -101,7 +101,7 @@ module _ {K : Type 0} (nodes : List (Node K)) (state : State) (m : TreeModel K) 
   next_fits : ltb (size m.tree) m.room ≡ true → Spot nodes (At (next_slot m.free m.fresh)) m.tree
   next_fits some = by m.free s.sound.distinct s.sound.below s.sound.all_used
     where
-      by : (free : List ℕ) → Distinct (slots m.tree ++ free) → All (λ i. i < m.fresh) (slots m.tree ++ free) → size m.tree + length free ≡ m.fresh →
+      by : (free : List ℕ) → Distinct (slots m.tree ++ free) → AllByRecursion (λ i. i < m.fresh) (slots m.tree ++ free) → size m.tree + length free ≡ m.fresh →
           Spot nodes (At (next_slot free m.fresh)) m.tree
       by [] d below used =
           let within = usable_within (length nodes) in

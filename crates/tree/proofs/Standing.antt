@@ -1,6 +1,6 @@
 -- Trees that stand in node memory: what a node that is read tells of them, and what keeps them standing.
 use Rattle.std.proofs.Common.{◌≡◌, ℕ, zero, suc, ◌<◌, List, [], ◌∷◌, length, get_or, set, Some, sym, refl, ap, ◌∙◌, subst, arith}
-use Rattle.std.specs.List.{slice_get, AllByRecursion as All}
+use Rattle.std.specs.List.{slice_get, AllByRecursion}
 use Rattle.std.proofs.ByRecursion.{All-weaker}
 use Rattle.std.proofs.lemmas.Option.{slice_get_read}
 use Rattle.avl.specs.Avl.{Avl, tip, fork, height, slots}
@@ -109,16 +109,16 @@ module _ {K : Type 0} where
       omega arith
 
   -- a tree whose slots did not change stands as it stood
-  lies_still : (nodes after : List (Node K)) (t : Avl K) → All (λ j. slice_get after j ≡ slice_get nodes j) (slots t) → Lies nodes t → Lies after t
+  lies_still : (nodes after : List (Node K)) (t : Avl K) → AllByRecursion (λ j. slice_get after j ≡ slice_get nodes j) (slots t) → Lies nodes t → Lies after t
   lies_still nodes after tip f h = tt
   lies_still nodes after (fork i k v a b) f h =
       let Same : ℕ → Type 0 = λ j. slice_get after j ≡ slice_get nodes j in
       let at_root = all_right Same (slots a) (i ∷ slots b) f in
       (at_root.0 ∙ h.0, lies_still nodes after a (all_left Same (slots a) (i ∷ slots b) f) h.1, lies_still nodes after b at_root.1 h.2)
 
-  pub stands_still : (nodes after : List (Node K)) (at : Link) (t : Avl K) → All (λ j. slice_get after j ≡ slice_get nodes j) (slots t) → Stands nodes at t → Stands after at t
+  pub stands_still : (nodes after : List (Node K)) (at : Link) (t : Avl K) → AllByRecursion (λ j. slice_get after j ≡ slice_get nodes j) (slots t) → Stands nodes at t → Stands after at t
   stands_still nodes after at t f s = record { lies = lies_still nodes after t f s.lies; linked = s.linked }
 
   -- so does a tree apart from all slots that changed
-  pub stands_apart : (nodes after : List (Node K)) (used : List ℕ) (at : Link) (t : Avl K) → ((j : ℕ) → Apart j used → slice_get after j ≡ slice_get nodes j) → All (λ j. Apart j used) (slots t) → Stands nodes at t → Stands after at t
+  pub stands_apart : (nodes after : List (Node K)) (used : List ℕ) (at : Link) (t : Avl K) → ((j : ℕ) → Apart j used → slice_get after j ≡ slice_get nodes j) → AllByRecursion (λ j. Apart j used) (slots t) → Stands nodes at t → Stands after at t
   stands_apart nodes after used at t frame apart s = stands_still nodes after at t (All-weaker (λ j. Apart j used) (λ j. slice_get after j ≡ slice_get nodes j) frame (slots t) apart) s

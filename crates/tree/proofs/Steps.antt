@@ -1,6 +1,6 @@
 -- What each call leaves in memory stands soundly as the model's next step.
 use Rattle.std.proofs.Common.{◌≡◌, ℕ, Bool, true, false, List, [], ◌∷◌, length, Ok, Err, Ordering, sym, refl, ap, ◌∙◌, subst, arith}
-use Rattle.std.specs.List.{slice_get, AllByRecursion as All}
+use Rattle.std.specs.List.{slice_get, AllByRecursion}
 use Rattle.std.proofs.lemmas.Bool.{cond-true, cond-false, ne_eqb, eq-eqb}
 use Rattle.books.specs.Calls.{Call, Find, Answer, Found, Sought, refused}
 use Rattle.books.specs.Meaning.{usable}
@@ -18,7 +18,7 @@ use Rattle.tree.proofs.Soundness.{means_from_stands}
 use Rattle.tree.proofs.Spots.{tree_placed}
 
 -- free slots that did not change stand as they stood
-pub chain_still : {K : Type 0} (nodes after : List (Node K)) (free : List ℕ) (at : Link) → All (λ j. slice_get after j ≡ slice_get nodes j) free → Chain nodes at free → Chain after at free
+pub chain_still : {K : Type 0} (nodes after : List (Node K)) (free : List ℕ) (at : Link) → AllByRecursion (λ j. slice_get after j ≡ slice_get nodes j) free → Chain nodes at free → Chain after at free
 chain_still nodes after [] at same c = c
 chain_still nodes after (i ∷ free) at same c =
     (c.0, (c.1.0, (same.0 ∙ c.1.1.0, c.1.1.1, chain_still nodes after free c.1.0.left same.1 c.1.1.2)))

@@ -6,8 +6,8 @@ use Rattle.tree.proofs.changes.+remove.Goals as goal
 pub bounds-nodes-i : goal.bounds-nodes-i
 bounds-nodes-i g t c = leads_inside c.args.nodes.now c.args.at c.in-At.i c.requires.0 c.requires.1.placed.stands c.in-At.is
 
-pub offset-bounds-nodes-i : goal.offset-bounds-nodes-i
-offset-bounds-nodes-i g t c = let h : c.in-At.i < length c.args.nodes.now = bounds-nodes-i g t c in search rules
+pub offset_bounds-nodes-i : goal.offset_bounds-nodes-i
+offset_bounds-nodes-i g t c = let h : c.in-At.i < length c.args.nodes.now = bounds-nodes-i g t c in search rules
 
 pub remove-below-requires : goal.remove-below-requires
 remove-below-requires g t c κs within =

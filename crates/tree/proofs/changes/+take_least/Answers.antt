@@ -8,8 +8,8 @@ use Rattle.tree.proofs.changes.+take_least.Goals as goal
 pub bounds-nodes-i : goal.bounds-nodes-i
 bounds-nodes-i g t c = leads_inside c.args.nodes.now (At c.args.i) c.args.i c.requires.0 c.requires.1.placed.stands refl
 
-pub offset-bounds-nodes-i : goal.offset-bounds-nodes-i
-offset-bounds-nodes-i g t c = let h : c.args.i < length c.args.nodes.now = bounds-nodes-i g t c in search rules
+pub offset_bounds-nodes-i : goal.offset_bounds-nodes-i
+offset_bounds-nodes-i g t c = let h : c.args.i < length c.args.nodes.now = bounds-nodes-i g t c in search rules
 
 pub take_least-least-requires : goal.take_least-least-requires
 take_least-least-requires g t c κs within =

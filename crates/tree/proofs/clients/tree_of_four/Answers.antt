@@ -42,7 +42,7 @@ pub returns : goal.returns
 unfolding balance
 returns c =
     -- the tree before each call
-    let at_first = c.new_tree.ensures in
+    let at_first = c.new-tree.ensures in
     let after_added = left (Add (count 1) 10) (new_tree 4) at_first c.add-added.ensures.left in
     let after_two = left (Add (count 2) 20) (four (leaf 0 1 10) [] 1 0) after_added c.add.ensures.left in
     let after_three = left (Add (count 3) 30) (four two_held [] 2 1) after_two c.add-2.ensures.left in

@@ -9,8 +9,8 @@ loop-at-init g c t p = seek_starts p.stands
 pub bounds-nodes-i : goal.bounds-nodes-i
 bounds-nodes-i g c = let w = c.loop-at.invariant c.requires.0 c.requires.1 in leads_inside c.args.nodes.now c.loop-at.at c.in-At.i w.rest w.stands c.in-At.is
 
-pub offset-bounds-nodes-i : goal.offset-bounds-nodes-i
-offset-bounds-nodes-i g c = let h = bounds-nodes-i g c in omega arith
+pub offset_bounds-nodes-i : goal.offset_bounds-nodes-i
+offset_bounds-nodes-i g c = let h = bounds-nodes-i g c in omega arith
 
 pub overflow_add-compared : goal.overflow_add-compared
 overflow_add-compared g c = omega (arith, few_comparisons (c.loop-at.invariant c.requires.0 c.requires.1) c.requires.1.low)
@@ -37,4 +37,4 @@ pub loop-at-preserved : goal.loop-at-preserved
 loop-at-preserved g c t p = seek_goes_right c.loop-at.above (c.loop-at.invariant t p) c.in-At.is c.index-nodes-i.is c.in-Greater.ensures
 
 pub returns : goal.returns
-returns g c t p = seek_ends c.loop-at.above (c.loop-at.invariant t p) c.in-default.is
+returns g c t p = seek_ends c.loop-at.above (c.loop-at.invariant t p) c.in_default.is

@@ -9,8 +9,8 @@ returns-then-slot-state g c = unused_next _ _ _ (stands_from_test _ _ c.requires
 inside : (g : _) (c : goal.Else-slot-state g) → c.args.slot < length c.args.nodes.now
 inside g c = used_inside _ _ _ (stands_from_test _ _ c.requires) c.args.slot c.if-slot-state.false
 
-pub offset-bounds-nodes-slot : goal.offset-bounds-nodes-slot
-offset-bounds-nodes-slot g c = let h = inside g c in omega arith
+pub offset_bounds-nodes-slot : goal.offset_bounds-nodes-slot
+offset_bounds-nodes-slot g c = let h = inside g c in omega arith
 
 pub bounds-nodes-slot : goal.bounds-nodes-slot
 bounds-nodes-slot g c = inside g c

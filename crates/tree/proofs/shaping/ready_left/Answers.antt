@@ -3,8 +3,8 @@ use Rattle.tree.proofs.Standing.{leads_inside}
 use Rattle.tree.proofs.Settling.{side_joins, side_reaches_left, side_reaches_right, readies_left, left_is_ready}
 use Rattle.tree.proofs.shaping.ready_left.Goals as goal
 
-pub offset-bounds-nodes-j : goal.offset-bounds-nodes-j
-offset-bounds-nodes-j g c = let h : c.in-At.j < length c.args.nodes.now = leads_inside c.args.nodes.now c.args.side c.in-At.j c.requires.0 c.requires.1.stands c.in-At.is in search rules
+pub offset_bounds-nodes-j : goal.offset_bounds-nodes-j
+offset_bounds-nodes-j g c = let h : c.in-At.j < length c.args.nodes.now = leads_inside c.args.nodes.now c.args.side c.in-At.j c.requires.0 c.requires.1.stands c.in-At.is in search rules
 
 pub bounds-nodes-j : goal.bounds-nodes-j
 bounds-nodes-j g c = leads_inside c.args.nodes.now c.args.side c.in-At.j c.requires.0 c.requires.1.stands c.in-At.is

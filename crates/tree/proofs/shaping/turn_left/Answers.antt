@@ -3,8 +3,8 @@ use Rattle.tree.proofs.Standing.{leads_inside}
 use Rattle.tree.proofs.Rotations.{nothing_turns_left, turns_left_inner, turns_left_outer, turns_left}
 use Rattle.tree.proofs.shaping.turn_left.Goals as goal
 
-pub offset-bounds-nodes-j : goal.offset-bounds-nodes-j
-offset-bounds-nodes-j g c = let h : c.in-At.j < length c.args.nodes.now = leads_inside c.args.nodes.now c.args.right c.in-At.j c.requires.1.0 c.requires.1.1.right_stands c.in-At.is in search rules
+pub offset_bounds-nodes-j : goal.offset_bounds-nodes-j
+offset_bounds-nodes-j g c = let h : c.in-At.j < length c.args.nodes.now = leads_inside c.args.nodes.now c.args.right c.in-At.j c.requires.1.0 c.requires.1.1.right_stands c.in-At.is in search rules
 
 pub bounds-nodes-j : goal.bounds-nodes-j
 bounds-nodes-j g c = leads_inside c.args.nodes.now c.args.right c.in-At.j c.requires.1.0 c.requires.1.1.right_stands c.in-At.is

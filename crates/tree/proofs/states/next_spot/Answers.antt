@@ -6,8 +6,8 @@ use Rattle.tree.proofs.states.next_spot.Goals as goal
 inside : (g : _) (c : goal.In-At g) → c.in-At.i < length c.args.nodes.now
 inside g c = freed_inside _ _ _ (stands_from_test _ _ c.requires.sound) c.in-At.i c.in-At.is
 
-pub offset-bounds-nodes-i : goal.offset-bounds-nodes-i
-offset-bounds-nodes-i g c = let h = inside g c in omega arith
+pub offset_bounds-nodes-i : goal.offset_bounds-nodes-i
+offset_bounds-nodes-i g c = let h = inside g c in omega arith
 
 pub bounds-nodes-i : goal.bounds-nodes-i
 bounds-nodes-i g c = inside g c
