@@ -120,7 +120,7 @@ fn seal_word<S: MaskSource, K: Spelled>(
     word: &[u8],
     out: &mut Vec<u8>,
 ) -> Result<(), Trouble> {
-    let value = K::from_word(out.allocator(), word)??;
+    let value = K::from_word(*out.allocator(), word)??;
     let mut scratch = [0; 32];
     let key = sealing::seal(source, &value, &mut scratch)?;
     replies::put_key(out, &key)?;
@@ -133,7 +133,7 @@ fn open_words<S: MaskSource, K: Spelled>(
     packed: &[u8],
     out: &mut Vec<u8>,
 ) -> Result<(), Trouble> {
-    let key = key_of_words(out.allocator(), width, packed)??;
+    let key = key_of_words(*out.allocator(), width, packed)??;
     open_key::<S, K>(source, &key, out)
 }
 
@@ -164,9 +164,9 @@ fn order_words<S: MaskSource, K: Spelled>(
     words: &[&[u8]],
     out: &mut Vec<u8>,
 ) -> Result<(), Trouble> {
-    let values = values_of::<K>(out.allocator(), words)?;
-    let keys = seal_all(source, out.allocator(), values.as_slice())?;
-    let ordered = in_order(out.allocator(), keys.as_slice())?;
+    let values = values_of::<K>(*out.allocator(), words)?;
+    let keys = seal_all(source, *out.allocator(), values.as_slice())?;
+    let ordered = in_order(*out.allocator(), keys.as_slice())?;
     for (i, key) in ordered.iter().enumerate() {
         if i > 0 {
             replies::put_text(out, " ")?;

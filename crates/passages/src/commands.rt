@@ -110,8 +110,8 @@ fn compare(
     packed_b: &[u8],
     out: &mut Vec<u8>,
 ) -> Result<(), Trouble> {
-    let a = key_of_words(out.allocator(), width_a, packed_a)?;
-    let b = key_of_words(out.allocator(), width_b, packed_b)?;
+    let a = key_of_words(*out.allocator(), width_a, packed_a)?;
+    let b = key_of_words(*out.allocator(), width_b, packed_b)?;
     let comparison = sealing::compare(&a?, &b?);
     let order = match comparison.order {
         Ordering::Less => "less at ",
@@ -142,11 +142,11 @@ fn trouble_told(
 }
 
 // The line of a result: the head, which never shows a secret, and the result.
-fn told(heap: Global, words: &[&[u8]], res: &[u8]) -> Result<Vec<u8>, AllocError> {
+fn told(heap: Global, words: &[&[u8]], text: &[u8]) -> Result<Vec<u8>, AllocError> {
     let mut line = Vec::new(heap);
     put_words(&mut line, head(words))?;
     put_text(&mut line, ": ")?;
-    line.extend_from_slice(res)?;
+    line.extend_from_slice(text)?;
     put_text(&mut line, "\n")?;
     Ok(line)
 }

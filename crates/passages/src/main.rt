@@ -18,5 +18,5 @@ use sessions::Session;
 use std::io;
 
 fn main(rt: HostRuntime) -> io::Result<()> {
-    Session::new(rt).run()
+    Session::new(rt)?.run()
 }

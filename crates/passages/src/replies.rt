@@ -12,14 +12,14 @@ pub fn put_text(out: &mut Vec<u8>, text: &str) -> Result<(), AllocError> {
 
 /// Appends a number in decimal digits.
 pub fn put_number(out: &mut Vec<u8>, number: impl Display + Drop) -> Result<(), AllocError> {
-    let digits = format!(in out.allocator(); "{number}")?;
+    let digits = format!(in *out.allocator(); "{number}")?;
     out.extend_from_slice(digits.as_bytes())
 }
 
 /// Appends bytes, two hex digits each.
 pub fn put_hex(out: &mut Vec<u8>, bytes: &[u8]) -> Result<(), AllocError> {
     for byte in bytes {
-        let digits = format!(in out.allocator(); "{byte:02x}")?;
+        let digits = format!(in *out.allocator(); "{byte:02x}")?;
         out.extend_from_slice(digits.as_bytes())?;
     }
     Ok(())

@@ -25,13 +25,13 @@ pub struct Session {
 }
 
 impl Session {
-    pub fn new(rt: HostRuntime) -> Session {
-        Session {
+    pub fn new(rt: HostRuntime) -> io::Result<Session> {
+        Ok(Session {
             rt,
-            input: BufReader::new(rt.stdin()),
+            input: BufReader::new(rt.alloc(), rt.stdin())?,
             number: 0,
             desk: Desk::new(),
-        }
+        })
     }
 
     /// Reads and answers all lines.

@@ -58,11 +58,11 @@ fn ask<K: Spelled, B: Book<K>>(
         [b"take", value] => take::<K, B>(book, value, out),
         [b"find", value] => find::<K, B>(book, value, out),
         [b"from", value] => {
-            let key = K::from_word(out.allocator(), value)??;
+            let key = K::from_word(*out.allocator(), value)??;
             put_entry(out, book.seek_from(&key)?)
         }
         [b"after", value] => {
-            let key = K::from_word(out.allocator(), value)??;
+            let key = K::from_word(*out.allocator(), value)??;
             put_entry(out, book.seek_after(&key)?)
         }
         [b"count"] => put_count::<K, B>(book, out),
@@ -76,7 +76,7 @@ fn add<K: Spelled, B: Book<K>>(
     ticket: &[u8],
     out: &mut Vec<u8>,
 ) -> Result<(), Trouble> {
-    let key = K::from_word(out.allocator(), value)?;
+    let key = K::from_word(*out.allocator(), value)?;
     let ticket = decimal(ticket).ok_or(Trouble::NotUnderstood)?;
     book.add(&key?, ticket)?;
     put_text(out, "added")?;
@@ -88,7 +88,7 @@ fn take<K: Spelled, B: Book<K>>(
     value: &[u8],
     out: &mut Vec<u8>,
 ) -> Result<(), Trouble> {
-    let key = K::from_word(out.allocator(), value)??;
+    let key = K::from_word(*out.allocator(), value)??;
     let ticket = book.take(&key)?;
     put_ticket(out, ticket)
 }
@@ -98,7 +98,7 @@ fn find<K: Spelled, B: Book<K>>(
     value: &[u8],
     out: &mut Vec<u8>,
 ) -> Result<(), Trouble> {
-    let key = K::from_word(out.allocator(), value)??;
+    let key = K::from_word(*out.allocator(), value)??;
     match book.find(&key)? {
         Some(ticket) => put_ticket(out, ticket),
         None => put_none(out),
