@@ -8,25 +8,27 @@ use Rattle.avl.specs.Avl.{entries, size, find, path}
 use Rattle.avl.specs.Model.{TreeModel, next_slot, freed_first, counted, grown, shrunk, served_step, relabelled_model}
 use Rattle.avl.specs.Laws.{TreeStepsCommute}
 use Rattle.avl.proofs.Relabel.{relabel_size, relabel_insert, relabel_remove, relabel_freed, relabel_find, relabel_path, relabel_seek}
+use Rattle.keys.specs.declared.refusals.Refusal.{Refusal}
+use Rattle.keys.specs.declared.refusals.Refusal.TheVariants.{NoSlots}
 
 -- an answer and the model left, their keys shown by g
 record Shown {K L : Type 0} (g : K → L) (step : Answer K × TreeModel K) (step' : Answer L × TreeModel L) : Type 0 where
   answers : step'.0 ≡ relabelled_answer g step.0
   leaves : step'.1 ≡ relabelled_model g step.1
 
-refused_shown : {K L : Type 0} (g : K → L) (c : Call K) (number : ℕ) → refused (relabelled_call g c) number ≡ relabelled_answer g (refused c number)
-refused_shown g (Add s ticket) number = refl
-refused_shown g (Take s) number = refl
-refused_shown g (Find s) number = refl
-refused_shown g (SeekFrom s) number = refl
-refused_shown g (SeekAfter s) number = refl
+refused_shown : {K L : Type 0} (g : K → L) (c : Call K) (refusal : Refusal) → refused (relabelled_call g c) refusal ≡ relabelled_answer g (refused c refusal)
+refused_shown g (Add s ticket) refusal = refl
+refused_shown g (Take s) refusal = refl
+refused_shown g (Find s) refusal = refl
+refused_shown g (SeekFrom s) refusal = refl
+refused_shown g (SeekAfter s) refusal = refl
 
 module _ {K L : Type 0} (g : K → L) (m : TreeModel K) where
   counted_shown : (n n' : ℕ) → n' ≡ n → counted n' (relabelled_model g m) ≡ relabelled_model g (counted n m)
   counted_shown n n' e = ap (λ n. counted n (relabelled_model g m)) e
 
   -- what an add or a take leaves
-  left_shown : {X : Type 0} (r r' : Result X ℕ) (changed : TreeModel K) (changed' : TreeModel L) (n n' : ℕ) → r' ≡ r → changed' ≡ relabelled_model g changed → n' ≡ n →
+  left_shown : {X : Type 0} (r r' : Result X Refusal) (changed : TreeModel K) (changed' : TreeModel L) (n n' : ℕ) → r' ≡ r → changed' ≡ relabelled_model g changed → n' ≡ n →
       where_ok r' changed' (counted n' (relabelled_model g m)) ≡ relabelled_model g (where_ok r changed (counted n m))
   left_shown r r' changed changed' n n' e f h =
       let w = where_ok_shown (relabelled_model g) r changed (counted n m) in
@@ -76,6 +78,6 @@ either_shown g false x y x' y' p q = q
 
 pub steps_commute : (K L : Type 0) → TreeStepsCommute K L
 steps_commute K L g order order' m c kept =
-    let r = either_shown g (eqb m.room 0) (refused c 9, counted 0 m) (served_step order m c) (refused (relabelled_call g c) 9, counted 0 (relabelled_model g m)) _
+    let r = either_shown g (eqb m.room 0) (refused c NoSlots, counted 0 m) (served_step order m c) (refused (relabelled_call g c) NoSlots, counted 0 (relabelled_model g m)) _
     (record { answers = refused_shown g c 9; leaves = refl }) (served_shown g order order' m c kept) in
     record { answers = r.answers; leaves = r.leaves }

@@ -12,6 +12,8 @@ use Rattle.books.proofs.Answering.{add_all, take_all, unserved_means, found_held
 use Rattle.avl.specs.Avl.{entries, size, find, seek, path, remove}
 use Rattle.avl.specs.Model.{TreeModel, next_slot, counted, grown, shrunk, served_step, tree_step}
 use Rattle.avl.proofs.Inorder.{size_entries, insert_one_more, remove_entries, find_all, seek_all, find_plain, seek_plain, insert_plain, remove_plain}
+use Rattle.keys.specs.declared.refusals.Refusal.{Refusal}
+use Rattle.keys.specs.declared.refusals.Refusal.TheVariants.{NoSlots}
 
 -- the pairs of a model, as a book shows them
 abbrev pairs : {K : Type 0} → TreeModel K → List (Option K × ℕ)
@@ -19,13 +21,13 @@ pairs m = map known (entries m.tree)
 
 -- what an add or a take leaves, by what it makes where it is accepted
 module _ {K X : Type 0} (m : TreeModel K) (n : ℕ) (changed : TreeModel K) where
-  leaves_plain : (r : Result X ℕ) (es : List (Entry K)) → entries changed.tree ≡ es → pairs (where_ok r changed (counted n m)) ≡ map known (where_ok r es (entries m.tree))
+  leaves_plain : (r : Result X Refusal) (es : List (Entry K)) → entries changed.tree ≡ es → pairs (where_ok r changed (counted n m)) ≡ map known (where_ok r es (entries m.tree))
   leaves_plain (Ok x) es e = ap (map known) e
-  leaves_plain (Err number) es e = refl
+  leaves_plain (Err refusal) es e = refl
 
-  leaves_room : (r : Result X ℕ) → changed.room ≡ m.room → (where_ok r changed (counted n m)).room ≡ m.room
+  leaves_room : (r : Result X Refusal) → changed.room ≡ m.room → (where_ok r changed (counted n m)).room ≡ m.room
   leaves_room (Ok x) e = e
-  leaves_room (Err number) e = refl
+  leaves_room (Err refusal) e = refl
 
 module _ {K : Type 0} (order : K → K → Ordering) (m : TreeModel K) where
   served_plain : (c : Call K) → Cut order (call_key c) (entries m.tree) →
@@ -78,7 +80,7 @@ module _ {K : Type 0} (order : K → K → Ordering) (m : TreeModel K) where
 pub model_means : {K I : Type 0} (order : K → K → Ordering) (family : I → K → Type 0) → ((i : I) → FamilyLaws order (family i)) → (m : TreeModel K) (c : Call K) →
     Meaning order family (map known (entries m.tree)) m.room c (tree_step order m c).0 (map known (entries (tree_step order m c).1.tree)) (tree_step order m c).1.room
 model_means order family laws m c =
-    cond_both (eqb m.room 0) (refused c 9, counted 0 m) (served_step order m c) (λ r. Meaning order family (pairs m) m.room c r.0 (pairs r.1) r.1.room)
+    cond_both (eqb m.room 0) (refused c NoSlots, counted 0 m) (served_step order m c) (λ r. Meaning order family (pairs m) m.room c r.0 (pairs r.1) r.1.room)
     (λ t. unserved_means order family (pairs m) m.room c (eqb-true _ _ t))
     (λ _. record {
       in_good_order = λ i es shown good kin.

@@ -14,6 +14,7 @@ use Rattle.avl.specs.Laws.{OnePlace, StaysSound}
 use Rattle.avl.proofs.Balance.{insert_balanced, remove_balanced}
 use Rattle.avl.proofs.Inorder.{size_slots, remove_slots}
 use Rattle.avl.proofs.Slots.{distinct_more, distinct_less, split, insert_slots, insert_size, remove_size, freed_some, held_or_apart, none_apart}
+use Rattle.keys.specs.declared.refusals.Refusal.TheVariants.{NoSlots}
 
 -- distinct slots, all used before
 record LinedUp (fresh : ℕ) (l : List ℕ) : Type 0 where
@@ -101,7 +102,7 @@ module _ {K : Type 0} (order : K → K → Ordering) where
 
   pub model_kept : (m : TreeModel K) (c : Call K) → Sound m → Sound (tree_step order m c).1
   model_kept m c s =
-      cond_both (eqb m.room 0) (refused c 9, counted 0 m) (served_step order m c) (λ r. Sound r.1) (λ _. counted_sound 0 m s) (λ _. served_kept m c s)
+      cond_both (eqb m.room 0) (refused c NoSlots, counted 0 m) (served_step order m c) (λ r. Sound r.1) (λ _. counted_sound 0 m s) (λ _. served_kept m c s)
 
 pub new_sound : {K : Type 0} (room : ℕ) → room ≤ 65535 → Sound {K = K} (new_tree room)
 new_sound room le = record { balanced = tt; distinct = tt; below = tt; all_used = refl; within = omega arith; few = le }

@@ -5,6 +5,7 @@ use Rattle.std.specs.List.{AllByRecursion}
 use Rattle.books.specs.Calls.{Call, Add, Take, Find, SeekFrom, SeekAfter, Answer, Added, Taken, Found, Sought, refused}
 use Rattle.books.specs.Plain.{add_answer, take_answer, where_ok}
 use Rattle.avl.specs.Avl.{Avl, tip, size, Balanced, slots, insert, remove, freed, find, seek, path, relabel}
+use Rattle.keys.specs.declared.refusals.Refusal.TheVariants.{NoSlots}
 
 pub record TreeModel (K : Type 0) : Type 0 where
   pub tree : Avl K
@@ -72,7 +73,7 @@ served_step order m (SeekAfter k) = (Sought (Ok (seek true order m.tree k)), cou
 
 -- 9, before all else: are there slots?
 abbrev pub tree_step : {K : Type 0} → (K → K → Ordering) → TreeModel K → Call K → Answer K × TreeModel K
-tree_step order m c = cond (m.room == 0) (refused c 9, counted 0 m) (served_step order m c)
+tree_step order m c = cond (m.room == 0) (refused c NoSlots, counted 0 m) (served_step order m c)
 
 -- a new tree
 abbrev pub new_tree : {K : Type 0} → ℕ → TreeModel K

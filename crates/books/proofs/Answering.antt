@@ -7,33 +7,35 @@ use Rattle.books.specs.declared.entries.Entry.{Entry}
 use Rattle.books.specs.Calls.{Call, Add, Take, Find, SeekFrom, SeekAfter, Found, Sought, refused}
 use Rattle.books.specs.Plain.{add_answer, take_answer, where_ok}
 use Rattle.books.specs.Meaning.{known, Finds, Seeks, Moves, Meaning}
+use Rattle.keys.specs.declared.refusals.Refusal.{Refusal}
+use Rattle.keys.specs.declared.refusals.Refusal.TheVariants.{NoSlots, BookFull, KeyNotHeld}
 
 -- an add is accepted where no ticket is found and there is room
-pub add_all : (P : Result (Unit {0}) ℕ → Type 0) (found : Option ℕ) (count room : ℕ) →
-    (found ≡ None → count < room → P (Ok tt)) → ((number : ℕ) → P (Err number)) → P (add_answer found count room)
-add_all P None count room accepted declined = cond_both (ltb count room) (Ok tt) (Err 11) P (λ t. accepted refl (ltb-true _ _ t)) (λ _. declined 11)
+pub add_all : (P : Result (Unit {0}) Refusal → Type 0) (found : Option ℕ) (count room : ℕ) →
+    (found ≡ None → count < room → P (Ok tt)) → ((refusal : Refusal) → P (Err refusal)) → P (add_answer found count room)
+add_all P None count room accepted declined = cond_both (ltb count room) (Ok tt) (Err BookFull) P (λ t. accepted refl (ltb-true _ _ t)) (λ _. declined 11)
 add_all P (Some ticket) count room accepted declined = declined 10
 
 -- a take is accepted where a ticket is found
-pub take_all : (P : Result ℕ ℕ → Type 0) (found : Option ℕ) → ((ticket : ℕ) → found ≡ Some ticket → P (Ok ticket)) → P (Err 12) → P (take_answer found)
+pub take_all : (P : Result ℕ Refusal → Type 0) (found : Option ℕ) → ((ticket : ℕ) → found ≡ Some ticket → P (Ok ticket)) → P (Err KeyNotHeld) → P (take_answer found)
 take_all P None accepted declined = declined
 take_all P (Some ticket) accepted declined = accepted ticket refl
 
 -- what a call leaves, shown by h
-pub where_ok_shown : {X Y Z : Type 0} (h : Y → Z) (r : Result X ℕ) (changed same : Y) → h (where_ok r changed same) ≡ where_ok r (h changed) (h same)
+pub where_ok_shown : {X Y Z : Type 0} (h : Y → Z) (r : Result X Refusal) (changed same : Y) → h (where_ok r changed same) ≡ where_ok r (h changed) (h same)
 where_ok_shown h (Ok x) changed same = refl
-where_ok_shown h (Err number) changed same = refl
+where_ok_shown h (Err refusal) changed same = refl
 
-pub refused_moves : {K : Type 0} (c : Call K) (number : ℕ) (pairs : List (Option K × ℕ)) → Moves c (refused c number) pairs pairs
-refused_moves (Add s ticket) number pairs = refl
-refused_moves (Take s) number pairs = refl
-refused_moves (Find s) number pairs = (tt, refl)
-refused_moves (SeekFrom s) number pairs = (tt, refl)
-refused_moves (SeekAfter s) number pairs = (tt, refl)
+pub refused_moves : {K : Type 0} (c : Call K) (refusal : Refusal) (pairs : List (Option K × ℕ)) → Moves c (refused c refusal) pairs pairs
+refused_moves (Add s ticket) refusal pairs = refl
+refused_moves (Take s) refusal pairs = refl
+refused_moves (Find s) refusal pairs = (tt, refl)
+refused_moves (SeekFrom s) refusal pairs = (tt, refl)
+refused_moves (SeekAfter s) refusal pairs = (tt, refl)
 
 -- a book of no capacity that declines a call with 9
 pub unserved_means : {K I : Type 0} (order : K → K → Ordering) (family : I → K → Type 0) (pairs : List (Option K × ℕ)) (room : ℕ) (c : Call K) →
-    room ≡ 0 → Meaning order family pairs room c (refused c 9) pairs room
+    room ≡ 0 → Meaning order family pairs room c (refused c NoSlots) pairs room
 unserved_means order family pairs room c e =
     record { in_good_order = λ i es shown good kin. inr (record { roomless = e; answers = refl; leaves = refl }); in_any_order = refused_moves c 9 pairs; room_stays = refl }
 

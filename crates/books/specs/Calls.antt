@@ -1,6 +1,7 @@
 -- What a book is asked, and what it answers. Refusals go by their numbers.
 use Rattle.std.specs.Prelude.{ℕ, Err, Option, Result}
 use Rattle.books.specs.declared.entries.Entry.{Entry}
+use Rattle.keys.specs.declared.refusals.Refusal.{Refusal}
 
 pub data Call (K : Type 0) : Type 0 where
   Add : K → ℕ → Call K
@@ -10,10 +11,10 @@ pub data Call (K : Type 0) : Type 0 where
   SeekAfter : K → Call K
 
 pub data Answer (K : Type 0) : Type 0 where
-  Added : Result (Unit {0}) ℕ → Answer K
-  Taken : Result ℕ ℕ → Answer K
-  Found : Result (Option ℕ) ℕ → Answer K
-  Sought : Result (Option (Entry K)) ℕ → Answer K
+  Added : Result (Unit {0}) Refusal → Answer K
+  Taken : Result ℕ Refusal → Answer K
+  Found : Result (Option ℕ) Refusal → Answer K
+  Sought : Result (Option (Entry K)) Refusal → Answer K
 
 -- the key that a call names
 abbrev pub call_key : {K : Type 0} → Call K → K
@@ -25,8 +26,8 @@ call_key (SeekAfter s) = s
 
 -- a call declined by its number
 abbrev pub refused : {K : Type 0} → Call K → ℕ → Answer K
-refused (Add s ticket) number = Added (Err number)
-refused (Take s) number = Taken (Err number)
-refused (Find s) number = Found (Err number)
-refused (SeekFrom s) number = Sought (Err number)
-refused (SeekAfter s) number = Sought (Err number)
+refused (Add s ticket) refusal = Added (Err refusal)
+refused (Take s) refusal = Taken (Err refusal)
+refused (Find s) refusal = Found (Err refusal)
+refused (SeekFrom s) refusal = Sought (Err refusal)
+refused (SeekAfter s) refusal = Sought (Err refusal)

@@ -7,6 +7,7 @@ use Rattle.keys.specs.declared.orders.OrderedKey.{Ghosts as KeyGhosts}
 use Rattle.books.specs.declared.entries.Entry.{Entry}
 use Rattle.books.specs.Calls.{Call, Add, Take, Find, SeekFrom, SeekAfter, Answer, Added, Taken, Found, Sought, call_key, refused}
 use Rattle.books.specs.Plain.{plain_step}
+use Rattle.keys.specs.declared.refusals.Refusal.TheVariants.{NoSlots}
 
 -- a pair as a book shows it, its key known
 abbrev pub known : {K : Type 0} → Entry K → Option K × ℕ
@@ -37,7 +38,7 @@ pub record OneMore {X : Type 0} (x : X) (fewer more : List X) : Type 0 where
 -- an add moves exactly its pair in, or refuses
 abbrev pub Adds : {K : Type 0} → K → ℕ → Answer K → List (Option K × ℕ) → List (Option K × ℕ) → Type 0
 Adds s ticket (Added (Ok done)) before left = OneMore (Some s, ticket) before left
-Adds s ticket (Added (Err number)) before left = left ≡ before
+Adds s ticket (Added (Err refusal)) before left = left ≡ before
 Adds s ticket (Taken r) before left = ⊥
 Adds s ticket (Found r) before left = ⊥
 Adds s ticket (Sought r) before left = ⊥
@@ -45,7 +46,7 @@ Adds s ticket (Sought r) before left = ⊥
 -- a take moves exactly one pair out, and answers its ticket, or refuses
 abbrev pub Takes : {K : Type 0} → Answer K → List (Option K × ℕ) → List (Option K × ℕ) → Type 0
 Takes {K} (Taken (Ok ticket)) before left = (key : Option K) × OneMore (key, ticket) left before
-Takes (Taken (Err number)) before left = left ≡ before
+Takes (Taken (Err refusal)) before left = left ≡ before
 Takes (Added r) before left = ⊥
 Takes (Found r) before left = ⊥
 Takes (Sought r) before left = ⊥
@@ -54,7 +55,7 @@ Takes (Sought r) before left = ⊥
 abbrev pub Finds : {K : Type 0} → Answer K → List (Option K × ℕ) → Type 0
 Finds {K} (Found (Ok (Some ticket))) pairs = (key : Option K) × Has pairs (key, ticket)
 Finds (Found (Ok None)) pairs = Unit {0}
-Finds (Found (Err number)) pairs = Unit {0}
+Finds (Found (Err refusal)) pairs = Unit {0}
 Finds (Added r) pairs = ⊥
 Finds (Taken r) pairs = ⊥
 Finds (Sought r) pairs = ⊥
@@ -63,7 +64,7 @@ Finds (Sought r) pairs = ⊥
 abbrev pub Seeks : {K : Type 0} → Answer K → List (Option K × ℕ) → Type 0
 Seeks (Sought (Ok (Some e))) pairs = Has pairs (known e)
 Seeks (Sought (Ok None)) pairs = Unit {0}
-Seeks (Sought (Err number)) pairs = Unit {0}
+Seeks (Sought (Err refusal)) pairs = Unit {0}
 Seeks (Added r) pairs = ⊥
 Seeks (Taken r) pairs = ⊥
 Seeks (Found r) pairs = ⊥
@@ -84,7 +85,7 @@ pub record AsThePlainBook {K : Type 0} (order : K → K → Ordering) (room : �
 -- at capacity 0 a book may decline every call with 9
 pub record Unserved {K : Type 0} (room : ℕ) (c : Call K) (answer : Answer K) (before left : List (Option K × ℕ)) : Type 0 where
   pub roomless : room ≡ 0
-  pub answers : answer ≡ refused c 9
+  pub answers : answer ≡ refused c NoSlots
   pub leaves : left ≡ before
 
 -- a call c of a book, by the pairs and the capacity before it and after it, and its answer

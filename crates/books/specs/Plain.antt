@@ -5,6 +5,8 @@ use Rattle.std.specs.declared.cmp.Ordering.{Ordering}
 use Rattle.keys.specs.Refusals.{asked}
 use Rattle.books.specs.declared.entries.Entry.{Entry}
 use Rattle.books.specs.Calls.{Call, Add, Take, Find, SeekFrom, SeekAfter, Answer, Added, Taken, Found, Sought}
+use Rattle.keys.specs.declared.refusals.Refusal.{Refusal}
+use Rattle.keys.specs.declared.refusals.Refusal.TheVariants.{KeyHeld, BookFull, KeyNotHeld}
 
 -- one of three, by how two keys are ordered
 abbrev pub by_order : {X : Type 0} → Ordering → X → X → X → X
@@ -43,18 +45,18 @@ first after order [] s = None
 first after order (e ∷ es) s = cond (passes after (order s e.key)) (first after order es s) (Some e)
 
 -- what an add answers. 10: is the key absent? 11: are the pairs fewer than the capacity?
-abbrev pub add_answer : Option ℕ → ℕ → ℕ → Result (Unit {0}) ℕ
-add_answer found count room = asked (not (is_some found)) 10 (asked (nat_lt count room) 11 (Ok tt))
+abbrev pub add_answer : Option ℕ → ℕ → ℕ → Result (Unit {0}) Refusal
+add_answer found count room = asked (not (is_some found)) KeyHeld (asked (nat_lt count room) BookFull (Ok tt))
 
 -- what a take answers. 12: is the key held?
-abbrev pub take_answer : Option ℕ → Result ℕ ℕ
-take_answer None = Err 12
+abbrev pub take_answer : Option ℕ → Result ℕ Refusal
+take_answer None = Err KeyNotHeld
 take_answer (Some ticket) = Ok ticket
 
 -- what a call leaves: a refusal alters nothing
-abbrev pub where_ok : {X Y : Type 0} → Result X ℕ → Y → Y → Y
+abbrev pub where_ok : {X Y : Type 0} → Result X Refusal → Y → Y → Y
 where_ok (Ok x) changed same = changed
-where_ok (Err number) changed same = same
+where_ok (Err refusal) changed same = same
 
 -- what the plain book of a capacity answers, and the pairs that it then has
 abbrev pub plain_step : {K : Type 0} → (K → K → Ordering) → ℕ → List (Entry K) → Call K → Answer K × List (Entry K)

@@ -25,7 +25,7 @@ relabelled_answer g (Added r) = Added r
 relabelled_answer g (Taken r) = Taken r
 relabelled_answer g (Found r) = Found r
 relabelled_answer g (Sought (Ok found)) = Sought (Ok (relabelled_found g found))
-relabelled_answer g (Sought (Err number)) = Sought (Err number)
+relabelled_answer g (Sought (Err refusal)) = Sought (Err refusal)
 
 -- s compares with each key as g shows both
 abbrev pub KeepsOrder : {K L : Type 0} → (K → L) → (K → K → Ordering) → (L → L → Ordering) → K → List (Entry K) → Type 0

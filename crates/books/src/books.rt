@@ -1,5 +1,4 @@
 ghost use Rattle.std.specs.Prelude.{◌≡◌, ℕ, List, length, Option as TheOption};
-ghost use Rattle.keys.specs.Refusals.{numbered};
 ghost use Rattle.books.specs.Calls.{Call, Add, Take, Find, SeekFrom, SeekAfter, Answer, Added, Taken, Found, Sought};
 ghost use Rattle.books.specs.Meaning.{Rule};
 
@@ -35,31 +34,31 @@ pub trait Book<K: OrderedKey> {
     /// Puts a pair in its place.
     fn add(&mut self, key: &K, ticket: u32) -> Result<(), Refusal>
         ensures lawful { K.OrderedKey.lawful key.now }
-        ensures answer { Added (numbered result) ≡ (step (model self.old) (Add key.now ticket)).0 }
+        ensures answer { Added result ≡ (step (model self.old) (Add key.now ticket)).0 }
         ensures left { model self.new ≡ (step (model self.old) (Add key.now ticket)).1 };
 
     /// Removes the pair of a key, and answers its ticket.
     fn take(&mut self, key: &K) -> Result<u32, Refusal>
         ensures lawful { K.OrderedKey.lawful key.now }
-        ensures answer { Taken (numbered result) ≡ (step (model self.old) (Take key.now)).0 }
+        ensures answer { Taken result ≡ (step (model self.old) (Take key.now)).0 }
         ensures left { model self.new ≡ (step (model self.old) (Take key.now)).1 };
 
     /// The ticket of a key, or that there is none.
     fn find(&mut self, key: &K) -> Result<Option<u32>, Refusal>
         ensures lawful { K.OrderedKey.lawful key.now }
-        ensures answer { Found (numbered result) ≡ (step (model self.old) (Find key.now)).0 }
+        ensures answer { Found result ≡ (step (model self.old) (Find key.now)).0 }
         ensures left { model self.new ≡ (step (model self.old) (Find key.now)).1 };
 
     /// The pair with the least key not below `key`, or none.
     fn seek_from(&mut self, key: &K) -> Result<Option<Entry<K>>, Refusal>
         ensures lawful { K.OrderedKey.lawful key.now }
-        ensures answer { Sought (numbered result) ≡ (step (model self.old) (SeekFrom key.now)).0 }
+        ensures answer { Sought result ≡ (step (model self.old) (SeekFrom key.now)).0 }
         ensures left { model self.new ≡ (step (model self.old) (SeekFrom key.now)).1 };
 
     /// The pair with the least key above `key`, or none.
     fn seek_after(&mut self, key: &K) -> Result<Option<Entry<K>>, Refusal>
         ensures lawful { K.OrderedKey.lawful key.now }
-        ensures answer { Sought (numbered result) ≡ (step (model self.old) (SeekAfter key.now)).0 }
+        ensures answer { Sought result ≡ (step (model self.old) (SeekAfter key.now)).0 }
         ensures left { model self.new ≡ (step (model self.old) (SeekAfter key.now)).1 };
 
     /// How many pairs there are.

@@ -1,6 +1,6 @@
 ghost use Rattle.std.specs.Prelude.{◌≡◌, Some, Ok, Err};
-ghost use Rattle.keys.specs.Refusals.{numbered};
 ghost use Rattle.books.specs.Plain.{entry};
+ghost use Rattle.keys.specs.declared.refusals.Refusal.TheVariants.{NoSlots, KeyHeld, BookFull, KeyNotHeld};
 
 use crate::{Book, Entry, Row};
 use keys::{Count, Refusal};
@@ -22,14 +22,14 @@ pub struct RowAnswers {
 
 /// A few calls on a row of three slots; what they answer is known from the contracts alone.
 pub fn row_of_three() -> RowAnswers
-    ensures added { numbered result.added ≡ Ok tt }
-    ensures again { numbered result.again ≡ Err 10 }
-    ensures full { numbered result.full ≡ Err 11 }
-    ensures taken { numbered result.taken ≡ Ok 2 }
-    ensures missing { numbered result.missing ≡ Err 12 }
-    ensures found { numbered result.found ≡ Ok (Some 3) }
-    ensures from { numbered result.from ≡ Ok (Some (entry (record { 0 = 10 }) 1)) }
-    ensures after { numbered result.after ≡ Ok (Some (entry (record { 0 = 30 }) 3)) }
+    ensures added { result.added ≡ Ok tt }
+    ensures again { result.again ≡ Err KeyHeld }
+    ensures full { result.full ≡ Err BookFull }
+    ensures taken { result.taken ≡ Ok 2 }
+    ensures missing { result.missing ≡ Err KeyNotHeld }
+    ensures found { result.found ≡ Ok (Some 3) }
+    ensures from { result.from ≡ Ok (Some (entry (record { 0 = 10 }) 1)) }
+    ensures after { result.after ≡ Ok (Some (entry (record { 0 = 30 }) 3)) }
     ensures left { result.left ≡ 2 }
     ensures room { result.room ≡ 3 }
 {
@@ -64,7 +64,7 @@ pub fn row_of_three() -> RowAnswers
 
 /// A find in a row over no memory: declined, as every call on it.
 pub fn row_of_none() -> Result<Option<u32>, Refusal>
-    ensures { numbered result ≡ Err 9 }
+    ensures { result ≡ Err NoSlots }
 {
     let mut memory: [Entry<Count>; 0] = [];
     let mut row = Row::new(&mut memory);

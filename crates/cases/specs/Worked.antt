@@ -10,6 +10,7 @@ use Rattle.sealing.specs.declared.records.SealedKey.{SealedKey}
 use Rattle.sealing.specs.Compared.{decided, compared}
 use Rattle.sealing.specs.Sealed.{sealed, packed_length, record_of, take_in_answer}
 use Rattle.siphash.specs.SipHash.{siphash}
+use Rattle.keys.specs.declared.refusals.Refusal.TheVariants.{NotTrits}
 
 -- the packed bytes of a sealed key
 abbrev packed_bytes : SealedKey → List ℕ
@@ -49,8 +50,8 @@ pub record WorkedCases : Type 0 where
   -- trits are compared modulo 3: with 162, 0 the first trit is 2, which is less than 0
   pub less_although_the_trit_is_larger : compared (record_of 1 (162 ∷ 0 ∷ [])) (record_of 1 (0 ∷ 0 ∷ [])) ≡ decided Less 1
   -- 243 is no byte of five trits, and in 90, 91 a pad trit is not 0
-  pub refused_over_242 : take_in_answer 1 (243 ∷ 0 ∷ []) ≡ Err 4
-  pub refused_with_a_pad_trit : take_in_answer 1 (90 ∷ 91 ∷ []) ≡ Err 4
+  pub refused_over_242 : take_in_answer 1 (243 ∷ 0 ∷ []) ≡ Err NotTrits
+  pub refused_with_a_pad_trit : take_in_answer 1 (90 ∷ 91 ∷ []) ≡ Err NotTrits
   -- SipHash-2-4 of the bytes 00 to 0e under the key 00 to 0f
   pub published_hash : siphash (from 0 16) (from 0 15) ≡ 0xa129ca6149be45e5
   -- keys 1, 2 and 3 added: the root is in slot 1

@@ -6,7 +6,6 @@
 ghost use Rattle.std.specs.Prelude.{◌≡◌, Ok};
 ghost use Rattle.digits.specs.Orders.{number_order};
 ghost use Rattle.keys.specs.Numbers.{count};
-ghost use Rattle.keys.specs.Refusals.{numbered};
 ghost use Rattle.cases.specs.Worked.{WorkedCases};
 
 use keys::{Count, Refusal};
@@ -21,7 +20,7 @@ pub fn worked_cases_hold()
 
 /// Seals a count and opens it again: whatever the secret, the count comes back.
 pub fn count_comes_back(secret: [u8; 16], number: u32) -> Result<Count, Refusal>
-    ensures { numbered result ≡ Ok (count number) }
+    ensures { result ≡ Ok (count number) }
 {
     let mut source = HashSource::new(secret);
     let mut scratch = [0; 32];
@@ -35,7 +34,7 @@ pub fn counts_keep_their_order(
     first: u32,
     second: u32,
 ) -> Result<Ordering, Refusal>
-    ensures { numbered result ≡ Ok (number_order first second) }
+    ensures { result ≡ Ok (number_order first second) }
 {
     let mut source = TreeSource::new(secret);
     let mut scratch = [0; 32];

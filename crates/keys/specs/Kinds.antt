@@ -2,6 +2,8 @@
 use Rattle.std.specs.Prelude.{ℕ, ◌<◌, ◌≤◌, Bool, cond, ◌&&◌, List, ◌++◌, length, take, drop, Some, None, Ok, Err, Option, Result, nat_le}
 use Rattle.std.specs.List.{AllByRecursion}
 use Rattle.keys.specs.Refusals.{asked}
+use Rattle.keys.specs.declared.refusals.Refusal.{Refusal}
+use Rattle.keys.specs.declared.refusals.Refusal.TheVariants.{KindWidth, ShortBuffer, NoValue}
 
 -- numbers that are bytes
 abbrev pub Bytes : List ℕ → Type 0
@@ -16,11 +18,11 @@ abbrev pub Served : ℕ → Type 0
 Served w = (1 ≤ w) × (w ≤ 32)
 
 -- 1: is the kind 1 to 32 bytes wide? 2: are w bytes there?
-abbrev pub width_asked : {X : Type 0} → ℕ → ℕ → Result X ℕ → Result X ℕ
-width_asked w there next = asked (served w) 1 (asked (nat_le w there) 2 next)
+abbrev pub width_asked : {X : Type 0} → ℕ → ℕ → Result X Refusal → Result X Refusal
+width_asked w there next = asked (served w) KindWidth (asked (nat_le w there) ShortBuffer next)
 
 -- what writing answers, into a buffer of so many bytes
-abbrev pub write_answer : ℕ → ℕ → Result (Unit {0}) ℕ
+abbrev pub write_answer : ℕ → ℕ → Result (Unit {0}) Refusal
 write_answer w there = width_asked w there (Ok tt)
 
 -- what a buffer holds after a write of these key bytes: they stand in front, and all else stays
@@ -28,10 +30,10 @@ abbrev pub written : ℕ → List ℕ → List ℕ → List ℕ
 written w key before = cond (served w && nat_le w (length before)) (key ++ drop w before) before
 
 -- 7: do these bytes write a value?
-abbrev pub value_asked : {X : Type 0} → Option X → Result X ℕ
-value_asked None = Err 7
+abbrev pub value_asked : {X : Type 0} → Option X → Result X Refusal
+value_asked None = Err NoValue
 value_asked (Some v) = Ok v
 
 -- what reading answers: the value that the first w bytes write
-abbrev pub read_answer : {X : Type 0} → ℕ → (List ℕ → Option X) → List ℕ → Result X ℕ
+abbrev pub read_answer : {X : Type 0} → ℕ → (List ℕ → Option X) → List ℕ → Result X Refusal
 read_answer w decode bytes = width_asked w (length bytes) (value_asked (decode (take w bytes)))

@@ -13,6 +13,7 @@ use Rattle.digits.specs.Orders.{number_order, row_order}
 use Rattle.keys.specs.Kinds.{value_asked, read_answer}
 use Rattle.digits.specs.Positional.{all_zero}
 use Rattle.keys.specs.Names.{none_zero, filled, is_name, named, unfilled, where_true}
+use Rattle.keys.specs.declared.refusals.Refusal.TheVariants.{ShortBuffer, NoValue}
 
 -- what is made of the bytes of a name does not depend on the proof that they are one
 pub same_name : {X : Type 0} (make : (bytes : List ℕ) → is_name bytes ≡ true → X) (a b : List ℕ) (p : is_name a ≡ true) (q : is_name b ≡ true) → a ≡ b → make a p ≡ make b q
@@ -68,7 +69,7 @@ module _ (text copied : List ℕ) (same : copied ≡ text) where
     pub new_answers : Ok (copied ++ drop (length text) (replicate 16 0)) ≡ named text
     new_answers =
         ap Ok copied_is
-        ∙ sym (cond-true (nat_le (length text) 16 && none_zero text) (Ok (text ++ replicate (16 - length text) 0)) (Err 7) (and_from (nat_le (length text) 16) (none_zero text) (le-leb (length text) 16 fits) whole))
+        ∙ sym (cond-true (nat_le (length text) 16 && none_zero text) (Ok (text ++ replicate (16 - length text) 0)) (Err NoValue) (and_from (nat_le (length text) 16) (none_zero text) (le-leb (length text) 16 fits) whole))
 
 -- a walk over the bytes, at the place i
 module _ (xs : List ℕ) (i : ℕ) (h : i < length xs) where
@@ -140,4 +141,4 @@ name_read make own bytes p l e =
     let q : is_name (take 16 bytes) ≡ true = sym (ap is_name e) ∙ p in
     ap Ok (same_name make own (take 16 bytes) p q e)
     ∙ ap value_asked (sym (where_true_some (is_name (take 16 bytes)) (make (take 16 bytes)) q))
-    ∙ sym (cond-true (nat_le 16 (length bytes)) (value_asked (where_true (is_name (take 16 bytes)) (make (take 16 bytes)))) (Err 2) (le-leb 16 (length bytes) l))
+    ∙ sym (cond-true (nat_le 16 (length bytes)) (value_asked (where_true (is_name (take 16 bytes)) (make (take 16 bytes)))) (Err ShortBuffer) (le-leb 16 (length bytes) l))

@@ -2,6 +2,8 @@
 use Rattle.std.specs.Prelude.{◌≡◌, ℕ, ◌-◌, Bool, true, false, cond, not, ◌&&◌, List, [], ◌∷◌, ◌++◌, length, replicate, Some, None, Ok, Option, Result, ◌==◌, nat_le, refl}
 use Rattle.digits.specs.Positional.{all_zero}
 use Rattle.keys.specs.Refusals.{asked}
+use Rattle.keys.specs.declared.refusals.Refusal.{Refusal}
+use Rattle.keys.specs.declared.refusals.Refusal.TheVariants.{NoValue}
 
 abbrev pub none_zero : List ℕ → Bool
 none_zero [] = true
@@ -16,8 +18,8 @@ abbrev pub is_name : List ℕ → Bool
 is_name bytes = length bytes == 16 && filled bytes
 
 -- 7: do these bytes make a name? Then zeros fill them up
-abbrev pub named : List ℕ → Result (List ℕ) ℕ
-named text = asked (nat_le (length text) 16 && none_zero text) 7 (Ok (text ++ replicate (16 - length text) 0))
+abbrev pub named : List ℕ → Result (List ℕ) Refusal
+named text = asked (nat_le (length text) 16 && none_zero text) NoValue (Ok (text ++ replicate (16 - length text) 0))
 
 -- the bytes before the first zero
 abbrev pub unfilled : List ℕ → List ℕ

@@ -4,6 +4,7 @@ use Rattle.std.proofs.Common.{sym, ap, ◌∙◌, ⊎_elim, append_assoc, arith}
 use borrow.Rule.Slice.PartMut.{put_mid}
 use Rattle.std.proofs.lemmas.Bool.{and_parts, cases_Bool, cond-true, cond-false}
 use Rattle.std.proofs.lemmas.List.{append-nil, length-drop, take_at, drop_at, drop_all, take_rest, take-take, drop-take, drop-drop}
+use Rattle.keys.specs.declared.refusals.Refusal.{Refusal}
 use Rattle.keys.specs.Kinds.{served, Served, write_answer, written, value_asked, read_answer}
 use Rattle.keys.specs.Pairs.{pair_width, both, pair_decoded}
 use Rattle.keys.specs.Questions.{served_from_test, asked_within, within_from_asked, written_within}
@@ -25,11 +26,11 @@ both_parts pair None b p e = let z : ◌≡◌ {A = ℕ} 0 1 = cc in absurd (ome
 both_parts pair (Some x) None p e = let z : ◌≡◌ {A = ℕ} 0 1 = cc in absurd (omega arith)
 both_parts pair (Some x) (Some y) p e = (x, y, refl, refl, cc)
 
-first_refused : {A B P : Type 0} (pair : A → B → P) (a : Option A) (b : Option B) (n : ℕ) → Err n ≡ value_asked a → Err n ≡ value_asked (both pair a b)
+first_refused : {A B P : Type 0} (pair : A → B → P) (a : Option A) (b : Option B) (n : Refusal) → Err n ≡ value_asked a → Err n ≡ value_asked (both pair a b)
 first_refused pair None b n e = cc
 first_refused pair (Some x) b n e = cc
 
-second_refused : {A B P : Type 0} (pair : A → B → P) (a : Option A) (b : Option B) (x : A) (n : ℕ) → Ok x ≡ value_asked a → Err n ≡ value_asked b → Err n ≡ value_asked (both pair a b)
+second_refused : {A B P : Type 0} (pair : A → B → P) (a : Option A) (b : Option B) (x : A) (n : Refusal) → Ok x ≡ value_asked a → Err n ≡ value_asked b → Err n ≡ value_asked (both pair a b)
 second_refused pair None b x n e f = cc
 second_refused pair (Some y) None x n e f = cc
 second_refused pair (Some y) (Some z) x n e f = cc
@@ -69,11 +70,11 @@ module _ (v w width : ℕ) (bytes : List ℕ) (is : width ≡ pair_width v w) (a
         ap (read_answer w second) rest
         ∙ asked_within w (length (drop v bytes)) (value_asked (second (take w (drop v bytes)))) parts_within.1 (omega (arith, parts_within.3, length-drop v bytes))
 
-    pub read_first_refused : (n : ℕ) → Err n ≡ read_answer v first bytes → Err n ≡ read_answer (pair_width v w) (pair_decoded pair v first second) bytes
+    pub read_first_refused : (n : Refusal) → Err n ≡ read_answer v first bytes → Err n ≡ read_answer (pair_width v w) (pair_decoded pair v first second) bytes
     read_first_refused n e = first_refused pair (first (take v bytes)) (second (take w (drop v bytes))) n (e ∙ first_read) ∙ sym pair_read
 
     module _ (split : ℕ) (at : split ≡ v) (x : A) (e : Ok x ≡ read_answer v first bytes) where
-      pub read_second_refused : (n : ℕ) → Err n ≡ read_answer w second (take (length bytes - split) (drop split bytes)) → Err n ≡ read_answer (pair_width v w) (pair_decoded pair v first second) bytes
+      pub read_second_refused : (n : Refusal) → Err n ≡ read_answer w second (take (length bytes - split) (drop split bytes)) → Err n ≡ read_answer (pair_width v w) (pair_decoded pair v first second) bytes
       read_second_refused n f = second_refused pair (first (take v bytes)) (second (take w (drop v bytes))) x n (e ∙ first_read) (f ∙ second_read split at) ∙ sym pair_read
 
       pub read_both : (y : B) → Ok y ≡ read_answer w second (take (length bytes - split) (drop split bytes)) → Ok (pair x y) ≡ read_answer (pair_width v w) (pair_decoded pair v first second) bytes

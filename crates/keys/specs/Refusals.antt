@@ -1,5 +1,5 @@
 -- The refusals' numbers, and how a row of questions answers.
-use Rattle.std.specs.Prelude.{ℕ, Bool, cond, Ok, Err, Result}
+use Rattle.std.specs.Prelude.{ℕ, Bool, cond, Err, Result}
 use Rattle.keys.specs.declared.refusals.Refusal.{Refusal}
 use Rattle.keys.specs.declared.refusals.Refusal.TheVariants.{KindWidth, ShortBuffer, KeyLength, NotTrits, OtherWidth, OtherSecret, NoValue, FullyWalked, NoSlots, KeyHeld, BookFull, KeyNotHeld}
 
@@ -17,11 +17,6 @@ refusal_number KeyHeld = 10
 refusal_number BookFull = 11
 refusal_number KeyNotHeld = 12
 
--- an answer with its refusal as a number
-abbrev pub numbered : {X : Type 0} → Result X Refusal → Result X ℕ
-numbered (Ok x) = Ok x
-numbered (Err e) = Err (refusal_number e)
-
--- a question: a no gives its number, a yes goes on
-abbrev pub asked : {X : Type 0} → Bool → ℕ → Result X ℕ → Result X ℕ
-asked held number next = cond held next (Err number)
+-- a question: a no gives its refusal, a yes goes on
+abbrev pub asked : {X : Type 0} → Bool → Refusal → Result X Refusal → Result X Refusal
+asked held refusal next = cond held next (Err refusal)

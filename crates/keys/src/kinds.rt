@@ -1,7 +1,6 @@
 ghost use Rattle.std.specs.Prelude.{◌≡◌, ℕ, List, length, Some, Option as TheOption};
 ghost use Rattle.digits.specs.Orders.{row_order};
 ghost use Rattle.keys.specs.Kinds.{Bytes, Served, write_answer, written, read_answer};
-ghost use Rattle.keys.specs.Refusals.{numbered};
 
 use crate::{OrderedKey, Refusal};
 
@@ -20,12 +19,12 @@ pub trait KeyKind: OrderedKey {
 
     /// Writes the key bytes into the front of `out`.
     fn write(&self, out: &mut [u8]) -> Result<(), Refusal>
-        ensures answer { numbered result ≡ write_answer width (length out.old) }
+        ensures answer { result ≡ write_answer width (length out.old) }
         ensures left { out.new ≡ written width (encode self.now) out.old };
 
     /// The value whose key bytes stand in the front of `bytes`.
     fn read(bytes: &[u8]) -> Result<Self, Refusal>
-        ensures { numbered result ≡ read_answer width decode bytes.now };
+        ensures { result ≡ read_answer width decode bytes.now };
 
     ghost wide: { (v : Self) → Self.OrderedKey.lawful v → Served width → length (encode v) ≡ width };
 

@@ -4,7 +4,6 @@ ghost use Rattle.std.specs.Result.{result_map_both};
 ghost use Rattle.digits.specs.Orders.{row_order};
 ghost use Rattle.keys.specs.Kinds.{Bytes};
 ghost use Rattle.keys.specs.Names.{filled, is_name, named, none_zero, unfilled, where_true};
-ghost use Rattle.keys.specs.Refusals.{refusal_number};
 ghost use Rattle.digits.proofs.Ordering.{row_order_flips, row_order_chains, row_order_same};
 ghost use Rattle.keys.specs.NameKeys.{same_name, where_true_some, where_true_parts};
 
@@ -21,7 +20,7 @@ pub struct Name {
 impl Name {
     /// The name of these bytes.
     pub fn new(text: &[u8]) -> Result<Name, Refusal>
-        ensures { result_map_both (λ n. n.bytes) refusal_number result ≡ named text.now }
+        ensures { result_map_both (λ n. n.bytes) (λ e. e) result ≡ named text.now }
     {
         if text.len() > 16 || has_zero(text) {
             return Err(Refusal::NoValue);

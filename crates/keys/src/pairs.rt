@@ -3,7 +3,6 @@ ghost use Rattle.std.proofs.Common.{sym, ◌∙◌, ap, rules, arith};
 ghost use Rattle.std.specs.Ordering.{ordering_then};
 ghost use Rattle.keys.specs.Kinds.{write_answer, served};
 ghost use Rattle.keys.specs.Pairs.{pair_width, pair_decoded};
-ghost use Rattle.keys.specs.Refusals.{numbered};
 ghost use Rattle.std.proofs.lemmas.List.{length-append, take_at, drop_at, take-append-drop};
 ghost use Rattle.keys.specs.PairKeys.{pair_parts, both_parts};
 ghost use Rattle.std.proofs.ByRecursion.{All-append, All-take, All-drop};
@@ -27,7 +26,7 @@ fn is_served(width: u8) -> bool
 
 // Asks the two questions that every write and read begins with.
 fn ask_width(width: u8, there: usize) -> Result<(), Refusal>
-    ensures { numbered result ≡ write_answer width there }
+    ensures { result ≡ write_answer width there }
 {
     if !is_served(width) {
         Err(Refusal::KindWidth)

@@ -1,5 +1,4 @@
 ghost use Rattle.std.specs.Prelude.{◌≡◌, ℕ, ◌<◌, ◌≤◌, Bool, List, [], length};
-ghost use Rattle.keys.specs.Refusals.{numbered};
 ghost use Rattle.masks.specs.Walks.{step_answer, stepped};
 
 use keys::Refusal;
@@ -21,7 +20,7 @@ pub trait MaskSource {
 
     // Appends a bit to the list.
     fn step(&mut self, bit: bool) -> Result<(), Refusal>
-        ensures answer { numbered result ≡ step_answer (walked self.old) }
+        ensures answer { result ≡ step_answer (walked self.old) }
         ensures same { masks self.new ≡ masks self.old }
         ensures list { walked self.new ≡ stepped (walked self.old) bit };
 

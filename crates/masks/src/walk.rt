@@ -1,5 +1,4 @@
 ghost use Rattle.std.specs.Prelude.{◌≡◌, ◌≤◌, [], length};
-ghost use Rattle.keys.specs.Refusals.{numbered};
 ghost use Rattle.masks.specs.Sources.{walk_text, walked_bits};
 ghost use Rattle.masks.specs.Walks.{step_answer, stepped};
 
@@ -31,7 +30,7 @@ impl Walk {
 
     /// Appends a bit, if there is room.
     pub fn push(&mut self, bit: bool) -> Result<(), Refusal>
-        ensures answer { numbered result ≡ step_answer (walked_bits self.old.text) }
+        ensures answer { result ≡ step_answer (walked_bits self.old.text) }
         ensures list { walked_bits self.new.text ≡ stepped (walked_bits self.old.text) bit }
     {
         let len = self.text[0];

@@ -10,10 +10,12 @@ use Rattle.sealing.specs.declared.records.SealedKey.{SealedKey}
 use Rattle.sealing.specs.Masking.{masked, packed_trits, unmasked}
 use Rattle.sealing.specs.Sealed.{sealed, cipher_asked, seal_answer, packed_length, record_of, trits_only, take_in_answer}
 use Rattle.sealing.specs.Opened.{bytes_of, found_answer, FoundLeft, bits_asked, open_answer}
+use Rattle.keys.specs.declared.refusals.Refusal.{Refusal}
+use Rattle.keys.specs.declared.refusals.Refusal.TheVariants.{KindWidth, ShortBuffer, KeyLength, NotTrits, OtherWidth}
 
-pub cipher_asked_yes : {X : Type 0} (w scratch : ℕ) (next : Result X ℕ) → Served w → 32 ≤ scratch → cipher_asked w scratch next ≡ next
+pub cipher_asked_yes : {X : Type 0} (w scratch : ℕ) (next : Result X Refusal) → Served w → 32 ≤ scratch → cipher_asked w scratch next ≡ next
 cipher_asked_yes w scratch next s room =
-    asked_yes (served w) 1 (asked (leb 32 scratch) 2 next) (test_from_served w s) ∙ asked_yes (leb 32 scratch) 2 next (le-leb 32 scratch room)
+    asked_yes (served w) KindWidth (asked (leb 32 scratch) ShortBuffer next) (test_from_served w s) ∙ asked_yes (leb 32 scratch) ShortBuffer next (le-leb 32 scratch room)
 
 -- the key bytes stand in front of a written scratch
 written_front : (w : ℕ) (key before : List ℕ) → Served w → w ≤ length before → length key ≡ w → take w (written w key before) ≡ key
@@ -23,8 +25,8 @@ written_front w key before s room long =
 
 -- the sealed bytes of what the kind wrote into the scratch
 pub seals_what_was_written : (f : List Bool → ℕ) (w width : ℕ) (key scratch out bytes : List ℕ) → width ≡ w → Served w → 32 ≤ length scratch → length key ≡ w
-    → out ≡ written w key scratch → ◌≡◌ {A = Result (List ℕ) ℕ} (Ok bytes) (Ok (packed_trits (masked f [] (bits (take (width - 0) out)))))
-    → ◌≡◌ {A = Result SealedKey ℕ} (Ok (record { width = width; bytes = bytes })) (seal_answer f w (length scratch) key)
+    → out ≡ written w key scratch → ◌≡◌ {A = Result (List ℕ) Refusal} (Ok bytes) (Ok (packed_trits (masked f [] (bits (take (width - 0) out)))))
+    → ◌≡◌ {A = Result SealedKey Refusal} (Ok (record { width = width; bytes = bytes })) (seal_answer f w (length scratch) key)
 unfolding sealed
 seals_what_was_written f w width key scratch out bytes width_is s room long out_is bytes_are =
     let there : w ≤ length scratch = let upper = s.1 in omega arith in
@@ -38,8 +40,8 @@ seals_what_was_written f w width key scratch out bytes width_is s room long out_
 pub take_in_answer_is : (w : ℕ) (packed : List ℕ) → Served w → length packed ≡ packed_length w → trits_only packed ≡ true → all_zero (drop (8 * w) (trits packed)) ≡ true
     → take_in_answer w packed ≡ Ok (record_of w packed)
 take_in_answer_is w packed s long are_trits pads =
-    asked_yes (served w && eqb (length packed) (packed_length w)) 3 _ (and_from (served w) (eqb (length packed) (packed_length w)) (test_from_served w s) (eq-eqb (length packed) (packed_length w) long))
-    ∙ asked_yes (trits_only packed && all_zero (drop (8 * w) (trits packed))) 4 (Ok (record_of w packed)) (and_from (trits_only packed) (all_zero (drop (8 * w) (trits packed))) are_trits pads)
+    asked_yes (served w && eqb (length packed) (packed_length w)) KeyLength _ (and_from (served w) (eqb (length packed) (packed_length w)) (test_from_served w s) (eq-eqb (length packed) (packed_length w) long))
+    ∙ asked_yes (trits_only packed && all_zero (drop (8 * w) (trits packed))) NotTrits (Ok (record_of w packed)) (and_from (trits_only packed) (all_zero (drop (8 * w) (trits packed))) are_trits pads)
 
 -- opening, from what was found behind the trits and from reading what was left in the scratch
 module _ {X : Type 0} (f : List Bool → ℕ) (w : ℕ) (decode : List ℕ → Option X) (scratch : ℕ) (k : SealedKey)
@@ -49,7 +51,7 @@ module _ {X : Type 0} (f : List Bool → ℕ) (w : ℕ) (decode : List ℕ → O
 
   pub open_answer_is : open_answer f w decode scratch k ≡ bits_asked found (λ bs. value_asked (decode (bytes_of w bs)))
   open_answer_is =
-      cipher_asked_yes w scratch _ s room ∙ asked_yes (eqb k.width w) 5 _ (eq-eqb k.width w width_is)
+      cipher_asked_yes w scratch _ s room ∙ asked_yes (eqb k.width w) OtherWidth _ (eq-eqb k.width w width_is)
 
   -- `part` is how many bytes of the scratch the opened key was lent
   pub opens_some : (part : ℕ) (key rest : List ℕ) → part ≡ w → length key ≡ part

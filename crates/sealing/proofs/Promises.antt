@@ -13,6 +13,8 @@ use Rattle.sealing.specs.Sealed.{sealed, seal_answer}
 use Rattle.sealing.proofs.Opening.{opens_sealed, opened_seals, opened_served}
 use Rattle.sealing.specs.SealedOrder.{compares_as_bytes}
 use Rattle.sealing.proofs.TakenIn.{sealed_taken_in}
+use Rattle.keys.specs.declared.refusals.Refusal.{Refusal}
+use Rattle.keys.specs.declared.refusals.Refusal.TheVariants.{KindWidth, ShortBuffer}
 
 pub compares_as_sealed : (a b : SealedKey) → ComparesAsSealed a b (compared a b)
 compares_as_sealed a b f u v u_bytes v_bytes u_served long a_is b_is =
@@ -26,11 +28,11 @@ module _ {V : Type 0} (width : ℕ) (order : V → V → Ordering) (lawful : V �
   served_key v l s = let long = wide v l s in (let lower = s.0 in omega arith, let upper = s.1 in omega arith)
 
   module _ (ordered : (v w : V) → lawful v → lawful w → Served width → order v w ≡ row_order (encode v) (encode w))
-      (scratch : ℕ) (v : V) (v_lawful : lawful v) (answer : Result SealedKey ℕ) (told : answer ≡ seal_answer f width scratch (encode v)) where
+      (scratch : ℕ) (v : V) (v_lawful : lawful v) (answer : Result SealedKey Refusal) (told : answer ≡ seal_answer f width scratch (encode v)) where
     sealed_so : (k : SealedKey) → answer ≡ Ok k → Served width × (k ≡ sealed f (encode v))
     sealed_so k e =
-        let first = asked_ok (served width) 1 (asked (leb 32 scratch) 2 (Ok (sealed f (encode v)))) k (sym told ∙ e) in
-        let second = asked_ok (leb 32 scratch) 2 (Ok (sealed f (encode v))) k first.1 in
+        let first = asked_ok (served width) KindWidth (asked (leb 32 scratch) ShortBuffer (Ok (sealed f (encode v)))) k (sym told ∙ e) in
+        let second = asked_ok (leb 32 scratch) ShortBuffer (Ok (sealed f (encode v))) k first.1 in
         let same : k ≡ sealed f (encode v) = cc second.1 in
         (served_from_test width first.0, same)
 
@@ -51,7 +53,7 @@ module _ {V : Type 0} (width : ℕ) (order : V → V → Ordering) (lawful : V �
   module _ (small : (list : List Bool) → f list < 3) (decode : List ℕ → Option V)
       (reads : (v : V) → lawful v → Served width → decode (encode v) ≡ Some v)
       (writes : (key : List ℕ) (v : V) → Bytes key → Served width → decode key ≡ Some v → lawful v × (encode v ≡ key))
-      (scratch : ℕ) (k : SealedKey) (answer : Result V ℕ) (told : answer ≡ open_answer f width decode scratch k) where
+      (scratch : ℕ) (k : SealedKey) (answer : Result V Refusal) (told : answer ≡ open_answer f width decode scratch k) where
     pub opens_exactly : OpensExactly width lawful encode f scratch k answer
     opens_exactly =
         record {

@@ -16,6 +16,7 @@ use Rattle.sealing.specs.Sealed.{sealed, packed_length, record_of, trits_only, t
 use Rattle.sealing.proofs.Answering.{take_in_answer_is}
 use Rattle.sealing.specs.MaskingLemmas.{length_masked, masked_lt}
 use Rattle.sealing.specs.SealedOrder.{sealed_trits}
+use Rattle.keys.specs.declared.refusals.Refusal.TheVariants.{KeyLength, NotTrits}
 
 trits_only_of : (bs : List ℕ) → AllByRecursion (λ b. b < 243) bs → trits_only bs ≡ true
 trits_only_of [] h = refl
@@ -93,8 +94,8 @@ module _ (w : ℕ) (ps : List ℕ) (k : SealedKey) (told : take_in_answer w ps �
 
   answers : (served w ≡ true) × (length ps ≡ packed_length w) × (trits_only ps ≡ true) × (all_zero (drop (8 * w) (trits ps)) ≡ true) × (k ≡ record_of w ps)
   answers =
-      let first = asked_ok first_asked 3 (asked then_asked 4 (Ok (record_of w ps))) k told in
-      let second = asked_ok then_asked 4 (Ok (record_of w ps)) k first.1 in
+      let first = asked_ok first_asked KeyLength (asked then_asked NotTrits (Ok (record_of w ps))) k told in
+      let second = asked_ok then_asked NotTrits (Ok (record_of w ps)) k first.1 in
       let widths = and_parts (served w) (eqb (length ps) (packed_length w)) first.0 in
       let rest = and_parts (trits_only ps) (all_zero (drop (8 * w) (trits ps))) second.0 in
       let is_record : k ≡ record_of w ps = cc second.1 in

@@ -7,19 +7,21 @@ use Rattle.digits.proofs.Bits.{bit_small, bits_small}
 use Rattle.digits.proofs.Packing.{length_unpacked, packed_nil, packed_push, push_fits}
 use Rattle.sealing.specs.Masking.{unmasked}
 use Rattle.sealing.specs.Opened.{bytes_of, trit_answer}
+use Rattle.keys.specs.declared.refusals.Refusal.{Refusal}
+use Rattle.keys.specs.declared.refusals.Refusal.TheVariants.{OtherSecret}
 
 -- a trit that gives a bit goes on with it; one that gives none ends
 by_bit : {X : Type 0} (low high : Bool) (bit : Bool) (next : Bool → X) (none : X)
-    → ◌≡◌ {A = Result Bool ℕ} (Ok bit) (cond low (Ok false) (cond high (Ok true) (Err 6))) → cond low (next false) (cond high (next true) none) ≡ next bit
+    → ◌≡◌ {A = Result Bool Refusal} (Ok bit) (cond low (Ok false) (cond high (Ok true) (Err OtherSecret))) → cond low (next false) (cond high (next true) none) ≡ next bit
 by_bit true high bit next none e = let same : bit ≡ false = cc in ap next (sym same)
 by_bit false true bit next none e = let same : bit ≡ true = cc in ap next (sym same)
 by_bit false false bit next none e = let z : ◌≡◌ {A = ℕ} 0 1 = cc in absurd (omega arith)
 
-by_none : {X : Type 0} (low high : Bool) (number : ℕ) (next : Bool → X) (none : X)
-    → ◌≡◌ {A = Result Bool ℕ} (Err number) (cond low (Ok false) (cond high (Ok true) (Err 6))) → (cond low (next false) (cond high (next true) none) ≡ none) × (number ≡ 6)
-by_none true high number next none e = let z : ◌≡◌ {A = ℕ} 0 1 = cc in absurd (omega arith)
-by_none false true number next none e = let z : ◌≡◌ {A = ℕ} 0 1 = cc in absurd (omega arith)
-by_none false false number next none e = let same : number ≡ 6 = cc in (refl, same)
+by_none : {X : Type 0} (low high : Bool) (refusal : Refusal) (next : Bool → X) (none : X)
+    → ◌≡◌ {A = Result Bool Refusal} (Err refusal) (cond low (Ok false) (cond high (Ok true) (Err OtherSecret))) → (cond low (next false) (cond high (next true) none) ≡ none) × (refusal ≡ OtherSecret)
+by_none true high refusal next none e = let z : ◌≡◌ {A = ℕ} 0 1 = cc in absurd (omega arith)
+by_none false true refusal next none e = let z : ◌≡◌ {A = ℕ} 0 1 = cc in absurd (omega arith)
+by_none false false refusal next none e = let same : refusal ≡ OtherSecret = cc in (refl, same)
 
 -- the trits of w key bytes
 abbrev pub first_trits : ℕ → List ℕ → List ℕ
@@ -56,9 +58,9 @@ module _ (f : List Bool → ℕ) (sealed : List ℕ) (w : ℕ) where
           sym so_far.ahead ∙ ap (unmasked f so_far.found) (drop_more (first_trits w sealed) i 0 inside) ∙ rw (masked_by, here) refl
 
       -- a trit that is neither its mask nor the one after it
-      pub no_bit_behind : (number : ℕ) → Err number ≡ trit_answer trit mask → (unmasked f [] (first_trits w sealed) ≡ None) × (number ≡ 6)
-      no_bit_behind number told =
-          let none = by_none (eqb trit mask) (eqb trit ((mask + 1) % 3)) number next None told in
+      pub no_bit_behind : (refusal : Refusal) → Err refusal ≡ trit_answer trit mask → (unmasked f [] (first_trits w sealed) ≡ None) × (refusal ≡ OtherSecret)
+      no_bit_behind refusal told =
+          let none = by_none (eqb trit mask) (eqb trit ((mask + 1) % 3)) refusal next None told in
           (at_trit ∙ none.0, none.1)
 
       -- a bit found: it is added, by its weight, to the byte that it falls into

@@ -5,6 +5,8 @@ use Rattle.keys.specs.Refusals.{asked}
 use Rattle.keys.specs.Kinds.{Bytes, Served, served}
 use Rattle.sealing.specs.declared.records.SealedKey.{SealedKey}
 use Rattle.sealing.specs.Masking.{masked, packed_trits}
+use Rattle.keys.specs.declared.refusals.Refusal.{Refusal}
+use Rattle.keys.specs.declared.refusals.Refusal.TheVariants.{KindWidth, ShortBuffer, KeyLength, NotTrits}
 
 -- how many bytes the trits of w key bytes take, five to a byte: the least whole number not under 8w / 5
 abbrev pub packed_length : ℕ → ℕ
@@ -15,11 +17,11 @@ unfoldable pub sealed : (List Bool → ℕ) → List ℕ → SealedKey
 sealed f key = record { width = length key; bytes = packed_trits (masked f [] (bits key)) }
 
 -- 1: is the kind 1 to 32 bytes wide? 2: has the scratch at least 32 bytes?
-abbrev pub cipher_asked : {X : Type 0} → ℕ → ℕ → Result X ℕ → Result X ℕ
-cipher_asked w scratch next = asked (served w) 1 (asked (nat_le 32 scratch) 2 next)
+abbrev pub cipher_asked : {X : Type 0} → ℕ → ℕ → Result X Refusal → Result X Refusal
+cipher_asked w scratch next = asked (served w) KindWidth (asked (nat_le 32 scratch) ShortBuffer next)
 
 -- what sealing answers: the kind's width, the scratch's length, the value's key bytes
-abbrev pub seal_answer : (List Bool → ℕ) → ℕ → ℕ → List ℕ → Result SealedKey ℕ
+abbrev pub seal_answer : (List Bool → ℕ) → ℕ → ℕ → List ℕ → Result SealedKey Refusal
 seal_answer f w scratch key = cipher_asked w scratch (Ok (sealed f key))
 
 -- the record of packed bytes, filled up with zeros
@@ -32,10 +34,10 @@ trits_only [] = true
 trits_only (b ∷ bs) = nat_le b 242 && trits_only bs
 
 -- what taking in answers. 3: is the width 1 to 32 and the length its packed length? 4: are bytes at most 242 and pad trits 0?
-abbrev pub take_in_answer : ℕ → List ℕ → Result SealedKey ℕ
+abbrev pub take_in_answer : ℕ → List ℕ → Result SealedKey Refusal
 take_in_answer w packed =
-    asked (served w && length packed == packed_length w) 3
-    (asked (trits_only packed && all_zero (drop (8 * w) (trits packed))) 4 (Ok (record_of w packed)))
+    asked (served w && length packed == packed_length w) KeyLength
+    (asked (trits_only packed && all_zero (drop (8 * w) (trits packed))) NotTrits (Ok (record_of w packed)))
 
 -- records that taking in gives
 abbrev pub TakenIn : SealedKey → Type 0

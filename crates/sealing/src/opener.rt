@@ -1,6 +1,5 @@
 ghost use Rattle.std.specs.Prelude.{◌≡◌, ◌*◌, ◌<◌, ◌≤◌, [], length, take, replicate};
 ghost use Rattle.digits.specs.Positional.{trits};
-ghost use Rattle.keys.specs.Refusals.{numbered};
 ghost use Rattle.sealing.specs.Masking.{unmasked};
 ghost use Rattle.sealing.specs.Opened.{open_answer, found_answer, FoundLeft, trit_answer};
 ghost use Rattle.sealing.specs.Promises.{OpensExactly};
@@ -17,8 +16,8 @@ pub fn open<S: MaskSource, K: KeyKind>(
     key: &SealedKey,
     scratch: &mut [u8],
 ) -> Result<K, Refusal>
-    ensures answer { numbered result ≡ open_answer (S.masks source.old) K.KeyKind.width K.KeyKind.decode (length scratch.old) key.now }
-    ensures exactly { OpensExactly K.KeyKind.width K.OrderedKey.lawful K.KeyKind.encode (S.masks source.old) (length scratch.old) key.now (numbered result) }
+    ensures answer { result ≡ open_answer (S.masks source.old) K.KeyKind.width K.KeyKind.decode (length scratch.old) key.now }
+    ensures exactly { OpensExactly K.KeyKind.width K.OrderedKey.lawful K.KeyKind.encode (S.masks source.old) (length scratch.old) key.now result }
     ensures wiped { scratch.new ≡ replicate (length scratch.old) 0 }
     ensures same_masks { S.masks source.new ≡ S.masks source.old }
     ensures restarted { S.walked source.new ≡ [] }
@@ -37,7 +36,7 @@ fn open_key<S: MaskSource, K: KeyKind>(
     scratch: &mut [u8],
 ) -> Result<K, Refusal>
     requires { S.walked source.old ≡ [] }
-    ensures answer { numbered result ≡ open_answer (S.masks source.old) K.KeyKind.width K.KeyKind.decode (length scratch.old) key.now }
+    ensures answer { result ≡ open_answer (S.masks source.old) K.KeyKind.width K.KeyKind.decode (length scratch.old) key.now }
     ensures same_masks { S.masks source.new ≡ S.masks source.old }
 {
     let width = K::width();
@@ -62,7 +61,7 @@ fn open_bytes<S: MaskSource>(
 ) -> Result<(), Refusal>
     requires start { S.walked source.old ≡ [] }
     requires served { length key.old ≤ 32 }
-    ensures answer { numbered result ≡ found_answer (unmasked (S.masks source.old) [] (take (8 * length key.old) (trits sealed.now))) }
+    ensures answer { result ≡ found_answer (unmasked (S.masks source.old) [] (take (8 * length key.old) (trits sealed.now))) }
     ensures left { FoundLeft (unmasked (S.masks source.old) [] (take (8 * length key.old) (trits sealed.now))) key.new }
     ensures same_masks { S.masks source.new ≡ S.masks source.old }
 {
@@ -81,7 +80,7 @@ fn open_bytes<S: MaskSource>(
 // The bit that makes this trit under this mask.
 fn bit_behind(trit: u8, mask: u8) -> Result<bool, Refusal>
     requires { mask < 3 }
-    ensures { numbered result ≡ trit_answer trit mask }
+    ensures { result ≡ trit_answer trit mask }
 {
     if trit == mask {
         Ok(false)

@@ -1,6 +1,5 @@
 ghost use Rattle.std.specs.Prelude.{◌≡◌, ◌≤◌, [], length, replicate, Ok};
 ghost use Rattle.digits.specs.Positional.{bits};
-ghost use Rattle.keys.specs.Refusals.{numbered};
 ghost use Rattle.sealing.specs.Masking.{masked, packed_trits};
 ghost use Rattle.sealing.specs.Promises.{SealsInOrder};
 ghost use Rattle.sealing.specs.Sealed.{seal_answer};
@@ -17,8 +16,8 @@ pub fn seal<S: MaskSource, K: KeyKind>(
     value: &K,
     scratch: &mut [u8],
 ) -> Result<SealedKey, Refusal>
-    ensures answer { numbered result ≡ seal_answer (S.masks source.old) K.KeyKind.width (length scratch.old) (K.KeyKind.encode value.now) }
-    ensures in_order { SealsInOrder K.OrderedKey.order K.OrderedKey.lawful K.KeyKind.encode (S.masks source.old) value.now (numbered result) }
+    ensures answer { result ≡ seal_answer (S.masks source.old) K.KeyKind.width (length scratch.old) (K.KeyKind.encode value.now) }
+    ensures in_order { SealsInOrder K.OrderedKey.order K.OrderedKey.lawful K.KeyKind.encode (S.masks source.old) value.now result }
     ensures wiped { scratch.new ≡ replicate (length scratch.old) 0 }
     ensures same_masks { S.masks source.new ≡ S.masks source.old }
     ensures restarted { S.walked source.new ≡ [] }
@@ -39,7 +38,7 @@ fn seal_value<S: MaskSource, K: KeyKind>(
 ) -> Result<SealedKey, Refusal>
     requires start { S.walked source.old ≡ [] }
     requires lawful { K.OrderedKey.lawful value.now }
-    ensures answer { numbered result ≡ seal_answer (S.masks source.old) K.KeyKind.width (length scratch.old) (K.KeyKind.encode value.now) }
+    ensures answer { result ≡ seal_answer (S.masks source.old) K.KeyKind.width (length scratch.old) (K.KeyKind.encode value.now) }
     ensures same_masks { S.masks source.new ≡ S.masks source.old }
 {
     let width = K::width();
@@ -58,7 +57,7 @@ fn seal_value<S: MaskSource, K: KeyKind>(
 fn seal_bytes<S: MaskSource>(source: &mut S, key: &[u8]) -> Result<[u8; 52], Refusal>
     requires start { S.walked source.old ≡ [] }
     requires served { length key.now ≤ 32 }
-    ensures answer { numbered result ≡ Ok (packed_trits (masked (S.masks source.old) [] (bits key.now))) }
+    ensures answer { result ≡ Ok (packed_trits (masked (S.masks source.old) [] (bits key.now))) }
     ensures same_masks { S.masks source.new ≡ S.masks source.old }
 {
     let mut trits = [0u8; 52];

@@ -1,6 +1,5 @@
 ghost use Rattle.std.specs.Prelude.{◌≡◌, ◌≤◌, length, take, drop};
 ghost use Rattle.digits.specs.Positional.{trits, all_zero};
-ghost use Rattle.keys.specs.Refusals.{numbered};
 ghost use Rattle.sealing.specs.Sealed.{packed_length, take_in_answer, trits_only};
 
 use crate::SealedKey;
@@ -16,7 +15,7 @@ pub fn packed_length(width: u8) -> usize
 
 /// Takes in a sealed key that was written down: its width and its packed bytes.
 pub fn take_in(width: u8, packed: &[u8]) -> Result<SealedKey, Refusal>
-    ensures { numbered result ≡ take_in_answer width packed.now }
+    ensures { result ≡ take_in_answer width packed.now }
 {
     if width < 1 || width > 32 || packed.len() != packed_length(width) {
         return Err(Refusal::KeyLength);

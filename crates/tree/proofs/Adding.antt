@@ -2,7 +2,7 @@
 use Rattle.std.proofs.Common.{◌≡◌, ℕ, suc, ◌+◌, ◌≤◌, Bool, true, false, not, ltb, List, [], ◌∷◌, ◌++◌, length, is_some, Some, None, Ok, Err, Option, Ordering, sym, refl, ap, ◌∙◌, subst, arith}
 use Rattle.std.specs.List.{slice_get, AllByRecursion}
 use Rattle.std.proofs.ByRecursion.{All-weaker}
-use Rattle.keys.specs.Refusals.{numbered, refusal_number, asked}
+use Rattle.keys.specs.Refusals.{refusal_number, asked}
 use Rattle.keys.specs.declared.refusals.Refusal.{Refusal}
 use Rattle.books.specs.Calls.{Add, Answer, Added}
 use Rattle.books.specs.Plain.{where_ok}
@@ -22,6 +22,7 @@ use Rattle.tree.specs.States.{StandsSoundly, NextSpot, counted_state}
 use Rattle.tree.proofs.Soundness.{stands_from_test}
 use Rattle.tree.proofs.Spots.{can_grow}
 use Rattle.tree.proofs.Steps.{chain_still, CallDone, done_so, done, counted_done, served_is}
+use Rattle.keys.specs.declared.refusals.Refusal.TheVariants.{KeyHeld, BookFull}
 
 -- no slot that stays free is the new node's, or in the tree
 stays_free : (held free : List ℕ) (fresh : ℕ) → Distinct (held ++ free) → AllByRecursion (λ j. Apart j (next_slot free fresh ∷ held)) (free_after free)
@@ -34,8 +35,8 @@ module _ {K : Type 0} (order : K → K → Ordering) (nodes : List (Node K)) (st
   -- by what is found, and whether there is a slot, what an add answers and leaves
   abbrev add_outcome : K → ℕ → Option ℕ → Bool → Answer K × TreeModel K
   add_outcome k v found some = (
-    Added (asked (not (is_some found)) 10 (asked some 11 (Ok tt))),
-    where_ok (asked {X = Unit {0}} (not (is_some found)) 10 (asked some 11 (Ok tt))) (grown order m k v) (counted (path false order m.tree k) m),
+    Added (asked (not (is_some found)) KeyHeld (asked some BookFull (Ok tt))),
+    where_ok (asked {X = Unit {0}} (not (is_some found)) 10 (asked some BookFull (Ok tt))) (grown order m k v) (counted (path false order m.tree k) m),
   )
 
   add_is : (k : K) (v : ℕ) (found : Option ℕ) (some : Bool) → find order m.tree k ≡ found → ltb (size m.tree) m.room ≡ some → tree_step order m (Add k v) ≡ add_outcome k v found some
@@ -73,15 +74,15 @@ module _ {K : Type 0} (order : K → K → Ordering) (nodes : List (Node K)) (st
     pub added_done : (root : Link) → r.top ≡ Ok root → CallDone order m (Add k v) (Added (Ok tt)) after (grown_state root)
     added_done root is = by (find order m.tree k) (ltb (size m.tree) m.room) refl refl inserted.outcome
       where
-        by : (found : Option ℕ) (some : Bool) → find order m.tree k ≡ found → ltb (size m.tree) m.room ≡ some → GrownBy order found spot.slot nodes m.tree k v after (numbered r.top) →
+        by : (found : Option ℕ) (some : Bool) → find order m.tree k ≡ found → ltb (size m.tree) m.room ≡ some → GrownBy order found spot.slot nodes m.tree k v after r.top →
             CallDone order m (Add k v) (Added (Ok tt)) after (grown_state root)
-        by (Some held) some f e out = absurd (let top = ap numbered is in let no = out.0 in let z : ◌≡◌ {A = ℕ} 0 1 = cc in omega arith)
+        by (Some held) some f e out = absurd (let top = ap is in let no = out.0 in let z : ◌≡◌ {A = ℕ} 0 1 = cc in omega arith)
         by None false f e out =
-            let none = subst (λ slot. GrownBy order None slot nodes m.tree k v after (numbered r.top)) (next.full e) out in
-            absurd (let top = ap numbered is in let no = none.0 in let z : ◌≡◌ {A = ℕ} 0 1 = cc in omega arith)
+            let none = subst (λ slot. GrownBy order None slot nodes m.tree k v after r.top) (next.full e) out in
+            absurd (let top = ap is in let no = none.0 in let z : ◌≡◌ {A = ℕ} 0 1 = cc in omega arith)
         by None true f e out =
-            let grew = subst (λ slot. GrownBy order None slot nodes m.tree k v after (numbered r.top)) (next.slot e) out in
-            let top = ap numbered is in
+            let grew = subst (λ slot. GrownBy order None slot nodes m.tree k v after r.top) (next.slot e) out in
+            let top = ap is in
             let told = grew.1.0 in
             let at : grew.0 ≡ root = cc in
             done order nodes state m s (Add k v) (Added (Ok tt)) (grown order m k v) after (grown_state root) (add_is k v None true f e)
@@ -97,22 +98,22 @@ module _ {K : Type 0} (order : K → K → Ordering) (nodes : List (Node K)) (st
         omega arith
 
     -- a refusal, by its number
-    kept_done : (refusal : Refusal) (number : ℕ) → r.top ≡ Err refusal → numbered r.top ≡ Err number → after ≡ nodes →
-        tree_step order m (Add k v) ≡ (Added (Err number), counted (path false order m.tree k) m) → CallDone order m (Add k v) (Added (Err (refusal_number refusal))) after (counted_state state r.comparisons)
-    kept_done refusal number is told same step =
-        let top = ap numbered is in
-        let number_is : refusal_number refusal ≡ number = cc in
-        done_so (ap (λ n. Added (Err n)) number_is) same (ap (counted_state state) inserted.comparisons) (counted_done order nodes state m s (Add k v) (Added (Err number)) (path false order m.tree k) step)
+    kept_done : (refusal refusal' : Refusal) → r.top ≡ Err refusal → r.top ≡ Err refusal → after ≡ nodes →
+        tree_step order m (Add k v) ≡ (Added (Err refusal), counted (path false order m.tree k) m) → CallDone order m (Add k v) (Added (Err (refusal_number refusal))) after (counted_state state r.comparisons)
+    kept_done refusal refusal is told same step =
+        let top = ap is in
+        let number_is : refusal_number refusal ≡ refusal = cc in
+        done_so (ap (λ n. Added (Err n)) number_is) same (ap (counted_state state) inserted.comparisons) (counted_done order nodes state m s (Add k v) (Added (Err refusal)) (path false order m.tree k) step)
 
     pub not_added_done : (refusal : Refusal) → r.top ≡ Err refusal → CallDone order m (Add k v) (Added (Err (refusal_number refusal))) after (counted_state state r.comparisons)
     not_added_done refusal is = by (find order m.tree k) (ltb (size m.tree) m.room) refl refl inserted.outcome
       where
-        by : (found : Option ℕ) (some : Bool) → find order m.tree k ≡ found → ltb (size m.tree) m.room ≡ some → GrownBy order found spot.slot nodes m.tree k v after (numbered r.top) →
+        by : (found : Option ℕ) (some : Bool) → find order m.tree k ≡ found → ltb (size m.tree) m.room ≡ some → GrownBy order found spot.slot nodes m.tree k v after r.top →
             CallDone order m (Add k v) (Added (Err (refusal_number refusal))) after (counted_state state r.comparisons)
         by (Some held) some f e out = kept_done refusal 10 is out.0 out.1 (add_is k v (Some held) some f e)
         by None false f e out =
-            let none = subst (λ slot. GrownBy order None slot nodes m.tree k v after (numbered r.top)) (next.full e) out in
+            let none = subst (λ slot. GrownBy order None slot nodes m.tree k v after r.top) (next.full e) out in
             kept_done refusal 11 is none.0 none.1 (add_is k v None false f e)
         by None true f e out =
-            let grew = subst (λ slot. GrownBy order None slot nodes m.tree k v after (numbered r.top)) (next.slot e) out in
-            absurd (let top = ap numbered is in let told = grew.1.0 in let z : ◌≡◌ {A = ℕ} 0 1 = cc in omega arith)
+            let grew = subst (λ slot. GrownBy order None slot nodes m.tree k v after r.top) (next.slot e) out in
+            absurd (let top = ap is in let told = grew.1.0 in let z : ◌≡◌ {A = ℕ} 0 1 = cc in omega arith)

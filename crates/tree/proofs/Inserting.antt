@@ -2,7 +2,7 @@
 use Rattle.std.proofs.Common.{◌≡◌, ℕ, suc, ◌+◌, ◌<◌, ◌≤◌, false, List, ◌∷◌, ◌++◌, length, get_or, Some, None, Ok, Err, Option, Result, Ordering, Less, Equal, Greater, sym, refl, ap, ◌∙◌, subst, arith}
 use Rattle.keys.specs.declared.refusals.Refusal.{Refusal}
 use Rattle.keys.specs.declared.refusals.Refusal.TheVariants.{KeyHeld}
-use Rattle.keys.specs.Refusals.{refusal_number, numbered}
+use Rattle.keys.specs.Refusals.{refusal_number}
 use Rattle.books.specs.Plain.{by_order}
 use Rattle.books.specs.Meaning.{OneMore}
 use Rattle.books.proofs.Cuts.{all_left, all_right, more_left, more_right, more_cons, all_with}
@@ -90,13 +90,13 @@ module _ {K : Type 0} (order : K → K → Ordering) (k : K) (v : ℕ) (nodes af
       subst (λ f. GrownBy order f slot nodes t k v after (Ok top)) (sym a.absent) (subst (λ at. GrownBy order None at nodes t k v after (Ok top)) (sym a.given) (top, (refl, a.grown)))
 
   -- a refusal does not depend on the tree
-  refuses : (found : Option ℕ) (slot : Link) (a t : Avl K) (number : ℕ) → GrownBy order found slot nodes a k v after (Err number) → GrownBy order found slot nodes t k v after (Err number)
-  refuses (Some held) slot a t number g = g
-  refuses None Nil a t number g = g
-  refuses None (At s) a t number g = absurd (let e = g.1.0 in let z : ◌≡◌ {A = ℕ} 0 1 = cc in omega arith)
+  refuses : (found : Option ℕ) (slot : Link) (a t : Avl K) (refusal : Refusal) → GrownBy order found slot nodes a k v after (Err refusal) → GrownBy order found slot nodes t k v after (Err refusal)
+  refuses (Some held) slot a t refusal g = g
+  refuses None Nil a t refusal g = g
+  refuses None (At s) a t refusal g = absurd (let e = g.1.0 in let z : ◌≡◌ {A = ℕ} 0 1 = cc in omega arith)
 
   still_refuses : (found : Option ℕ) (slot : Link) (a t : Avl K) (top : Result Link Refusal) → ((side : Link) → top ≡ Ok side → ⊥) →
-      GrownBy order found slot nodes a k v after (numbered top) → GrownBy order found slot nodes t k v after (numbered top)
+      GrownBy order found slot nodes a k v after top → GrownBy order found slot nodes t k v after top
   still_refuses found slot a t (Ok side) never g = absurd (never side refl)
   still_refuses found slot a t (Err e) never g = refuses found slot a t (refusal_number e) g
 
@@ -106,7 +106,7 @@ module _ {K : Type 0} (order : K → K → Ordering) (k : K) (v : ℕ) (nodes : 
       Inserted order nodes slot t k v mid (record { top = r.top; comparisons = r.comparisons + 1 })
   side_refused mid r below never = record {
     comparisons = let e = below.comparisons in let f = way.path_is in omega arith;
-    outcome = subst (λ f. GrownBy order f slot nodes t k v mid (numbered r.top)) (sym way.find_is) (still_refuses order k v nodes mid (find order a k) slot a t r.top never below.outcome);
+    outcome = subst (λ f. GrownBy order f slot nodes t k v mid r.top) (sym way.find_is) (still_refuses order k v nodes mid (find order a k) slot a t r.top never below.outcome);
   }
 
   side_accepted : (mid after : List (Node K)) (comparisons : ℕ) (side top : Link) → comparisons ≡ path false order a k → (x : Accepted order (find order a k) slot nodes a k v mid side) →
@@ -129,7 +129,7 @@ module _ {K : Type 0} {order : K → K → Ordering} {k : K} {v : ℕ} {nodes : 
   few_comparisons = omega (arith, (below a g).comparisons, path_low false order k a, g.placed.low)
 
   came_in : (side : Link) → r.top ≡ Ok side → Accepted order (find order a k) slot nodes a k v mid side
-  came_in side ok = accepts order k v nodes mid (find order a k) slot a side (subst (λ x. GrownBy order (find order a k) slot nodes a k v mid (numbered x)) ok (below a g).outcome)
+  came_in side ok = accepts order k v nodes mid (find order a k) slot a side (subst (λ x. GrownBy order (find order a k) slot nodes a k v mid x) ok (below a g).outcome)
 
   grown_low : (s : ℕ) → height (insert order a k v s) ≤ 101
   grown_low s = omega (arith, (insert_balanced order a k v s g.balanced).high, g.placed.low)
@@ -174,7 +174,7 @@ module _ {K : Type 0} {nodes : List (Node K)} {at slot : Link} {i : ℕ} {n : No
   pub meets : (order : K → K → Ordering) (k : K) (v : ℕ) → Equal ≡ order k n.key → Inserted order nodes slot t k v nodes (record { top = Err KeyHeld; comparisons = 1 })
   meets order k v e = record {
     comparisons = sym (path_on order k nodes i n t root Equal e);
-    outcome = subst (λ f. GrownBy order f slot nodes t k v nodes (Err 10)) (sym (find_on order k nodes i n t root Equal e)) (refl, refl);
+    outcome = subst (λ f. GrownBy order f slot nodes t k v nodes (Err KeyHeld)) (sym (find_on order k nodes i n t root Equal e)) (refl, refl);
   }
 
   -- the insertion went left: a refusal is passed up, else the root is put over the side that has grown

@@ -16,6 +16,7 @@ use Rattle.tree.specs.Descents.{FindsBelow, SeeksBelow}
 use Rattle.tree.specs.States.{Chain, StandsSoundly, Means, counted_state, seek_call}
 use Rattle.tree.proofs.Soundness.{means_from_stands}
 use Rattle.tree.proofs.Spots.{tree_placed}
+use Rattle.keys.specs.declared.refusals.Refusal.TheVariants.{NoSlots}
 
 -- free slots that did not change stand as they stood
 pub chain_still : {K : Type 0} (nodes after : List (Node K)) (free : List ℕ) (at : Link) → AllByRecursion (λ j. slice_get after j ≡ slice_get nodes j) free → Chain nodes at free → Chain after at free
@@ -62,10 +63,10 @@ module _ {K : Type 0} (order : K → K → Ordering) (nodes : List (Node K)) (st
 
   -- so many slots serve
   module _ (serving : ℕ) (serves : serving ≡ usable (length nodes)) where
-    pub unserved_done : serving ≡ 0 → (c : Call K) → CallDone order m c (refused c 9) nodes (counted_state state 0)
-    unserved_done none c = counted_done c (refused c 9) 0 (cond-true _ _ _ (eq-eqb m.room 0 (sym s.room_is ∙ (sym serves ∙ none))))
+    pub unserved_done : serving ≡ 0 → (c : Call K) → CallDone order m c (refused c NoSlots) nodes (counted_state state 0)
+    unserved_done none c = counted_done c (refused c NoSlots) 0 (cond-true _ _ _ (eq-eqb m.room 0 (sym s.room_is ∙ (sym serves ∙ none))))
 
-    pub unsought_done : serving ≡ 0 → (after : Bool) (k : K) → CallDone order m (seek_call after k) (Sought (Err 9)) nodes (counted_state state 0)
+    pub unsought_done : serving ≡ 0 → (after : Bool) (k : K) → CallDone order m (seek_call after k) (Sought (Err NoSlots)) nodes (counted_state state 0)
     unsought_done none false k = unserved_done none (seek_call false k)
     unsought_done none true k = unserved_done none (seek_call true k)
 

@@ -23,6 +23,7 @@ use Rattle.tree.specs.States.{Chain, StandsSoundly, MadeFree, free_node, counted
 use Rattle.tree.proofs.Standing.{nth_set_same, nth_set_other, stands_still}
 use Rattle.tree.proofs.Spots.{can_shrink}
 use Rattle.tree.proofs.Steps.{chain_still, CallDone, done_so, done, counted_done, served_is}
+use Rattle.keys.specs.declared.refusals.Refusal.TheVariants.{KeyNotHeld}
 
 module _ {K : Type 0} (order : K → K → Ordering) (nodes : List (Node K)) (state : State) (m : TreeModel K) (s : StandsSoundly nodes state m) (serving : ℕ) (serves : serving ≡ usable (length nodes)) (served : serving ≡ 0 → ⊥) where
   -- by what is found, what a take answers and leaves
@@ -54,12 +55,12 @@ module _ {K : Type 0} (order : K → K → Ordering) (nodes : List (Node K)) (st
             let ticket = out.1.1 in
             subst Went same (record { found = f ∙ ap Some (sym ticket); spare = out.1.2; shaped = out.1.3 })
 
-    pub not_taken_done : r.gone ≡ None → CallDone order m (Take k) (Taken (Err 12)) after (counted_state state r.comparisons)
+    pub not_taken_done : r.gone ≡ None → CallDone order m (Take k) (Taken (Err KeyNotHeld)) after (counted_state state r.comparisons)
     not_taken_done is = by (find order m.tree k) refl removed.outcome
       where
-        by : (found : Option ℕ) → find order m.tree k ≡ found → ShrunkBy order found nodes m.tree k after r.gone → CallDone order m (Take k) (Taken (Err 12)) after (counted_state state r.comparisons)
+        by : (found : Option ℕ) → find order m.tree k ≡ found → ShrunkBy order found nodes m.tree k after r.gone → CallDone order m (Take k) (Taken (Err KeyNotHeld)) after (counted_state state r.comparisons)
         by None f out =
-            done_so refl out.1 (ap (counted_state state) removed.comparisons) (counted_done order nodes state m s (Take k) (Taken (Err 12)) (path false order m.tree k) (take_is k None f))
+            done_so refl out.1 (ap (counted_state state) removed.comparisons) (counted_done order nodes state m s (Take k) (Taken (Err KeyNotHeld)) (path false order m.tree k) (take_is k None f))
         by (Some held) f out = absurd (let told = out.1.0 in let z : ◌≡◌ {A = ℕ} 0 1 = cc in omega arith)
 
     module _ (gone : Gone) (is : r.gone ≡ Some gone) where

@@ -1,7 +1,6 @@
 -- What an insertion and a removal make of node memory.
 use Rattle.std.specs.Prelude.{◌≡◌, ℕ, ◌<◌, false, List, ◌∷◌, ◌++◌, length, Some, None, Ok, Err, Option, Result}
 use Rattle.std.specs.declared.cmp.Ordering.{Ordering}
-use Rattle.keys.specs.Refusals.{numbered}
 use Rattle.avl.specs.Avl.{Avl, fork, Balanced, slots, insert, remove, find, freed, path, joined, spare, without_least, least_slot, least_key, least_ticket}
 use Rattle.avl.specs.Model.{Apart}
 use Rattle.tree.specs.declared.changes.Insertion.{Insertion}
@@ -14,6 +13,8 @@ use Rattle.tree.specs.declared.nodes.Link.TheVariants.{Nil, At}
 use Rattle.tree.specs.declared.nodes.Node.{Node}
 use Rattle.tree.specs.Shaping.{Joining}
 use Rattle.tree.specs.Standing.{Placed, Reshaped}
+use Rattle.keys.specs.declared.refusals.Refusal.{Refusal}
+use Rattle.keys.specs.declared.refusals.Refusal.TheVariants.{KeyHeld, BookFull}
 
 -- a slot for a new node, if there is one: it is in the memory, and not in the tree
 abbrev pub Spot : {K : Type 0} → List (Node K) → Link → Avl K → Type 0
@@ -30,14 +31,14 @@ abbrev pub Changeable : {K : Type 0} → List (Node K) → Link → Link → Typ
 Changeable {K} nodes at slot = (t : Avl K) × Changing nodes at slot t
 
 -- by the ticket found and the slot to use, what an insertion answers and leaves
-abbrev pub GrownBy : {K : Type 0} → (K → K → Ordering) → Option ℕ → Link → List (Node K) → Avl K → K → ℕ → List (Node K) → Result Link ℕ → Type 0
-GrownBy order (Some held) slot nodes t k v after top = (top ≡ Err 10) × (after ≡ nodes)
-GrownBy order None Nil nodes t k v after top = (top ≡ Err 11) × (after ≡ nodes)
+abbrev pub GrownBy : {K : Type 0} → (K → K → Ordering) → Option ℕ → Link → List (Node K) → Avl K → K → ℕ → List (Node K) → Result Link Refusal → Type 0
+GrownBy order (Some held) slot nodes t k v after top = (top ≡ Err KeyHeld) × (after ≡ nodes)
+GrownBy order None Nil nodes t k v after top = (top ≡ Err BookFull) × (after ≡ nodes)
 GrownBy order None (At s) nodes t k v after top = (at : Link) × ((top ≡ Ok at) × Reshaped nodes after (s ∷ slots t) at (insert order t k v s))
 
 pub record Inserted {K : Type 0} (order : K → K → Ordering) (nodes : List (Node K)) (slot : Link) (t : Avl K) (k : K) (v : ℕ) (after : List (Node K)) (r : Insertion) : Type 0 where
   pub comparisons : r.comparisons ≡ path false order t k
-  pub outcome : GrownBy order (find order t k) slot nodes t k v after (numbered r.top)
+  pub outcome : GrownBy order (find order t k) slot nodes t k v after r.top
 
 abbrev pub Inserts : {K : Type 0} → (K → K → Ordering) → List (Node K) → Link → Link → K → ℕ → List (Node K) → Insertion → Type 0
 Inserts {K} order nodes at slot k v after r = (t : Avl K) → Changing nodes at slot t → Inserted order nodes slot t k v after r

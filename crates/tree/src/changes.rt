@@ -1,7 +1,6 @@
 //! Insertion and removal in node memory: down by one comparison at each node, and back with each node put in balance.
 
 ghost use Rattle.std.specs.Prelude.{None};
-ghost use Rattle.keys.specs.Refusals.{numbered};
 ghost use Rattle.avl.specs.Avl.{balance, tip};
 ghost use Rattle.tree.specs.Changes.{Spot, GrownBy, Changeable, Inserts, TakesTheLeast, Sided, JoinsUp, Removes};
 ghost use Rattle.tree.specs.Shaping.{Joinable, Joins};
@@ -120,7 +119,7 @@ fn new_leaf<K: OrderedKey>(
     slot: Link,
 ) -> Result<Link, Refusal>
     requires { Spot nodes.old slot tip }
-    ensures { GrownBy K.OrderedKey.order None slot nodes.old tip key.now ticket nodes.new (numbered result) }
+    ensures { GrownBy K.OrderedKey.order None slot nodes.old tip key.now ticket nodes.new result }
 {
     match slot {
         Link::Nil => Err(Refusal::BookFull),

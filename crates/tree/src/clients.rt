@@ -1,6 +1,6 @@
 ghost use Rattle.std.specs.Prelude.{◌≡◌, Some, None, Ok, Err};
-ghost use Rattle.keys.specs.Refusals.{numbered};
 ghost use Rattle.books.specs.Plain.{entry};
+ghost use Rattle.keys.specs.declared.refusals.Refusal.TheVariants.{KeyHeld, KeyNotHeld};
 
 use crate::nodes::Node;
 use crate::shapes::Shape;
@@ -33,15 +33,15 @@ pub struct TreeAnswers {
 /// The third key turns the second up, so that slot 1 is the root's. When the second key goes, the pair of the third
 /// moves into slot 1, and slot 2 is free.
 pub fn tree_of_four() -> TreeAnswers
-    ensures added { numbered result.added ≡ Ok tt }
-    ensures again { numbered result.again ≡ Err 10 }
+    ensures added { result.added ≡ Ok tt }
+    ensures again { result.again ≡ Err KeyHeld }
     ensures root { result.root ≡ Some 1 }
     ensures comparisons { result.comparisons ≡ 2 }
-    ensures taken { numbered result.taken ≡ Ok 20 }
-    ensures missing { numbered result.missing ≡ Err 12 }
-    ensures found { numbered result.found ≡ Ok (Some 30) }
-    ensures from { numbered result.from ≡ Ok (Some (entry (record { 0 = 3 }) 30)) }
-    ensures after { numbered result.after ≡ Ok None }
+    ensures taken { result.taken ≡ Ok 20 }
+    ensures missing { result.missing ≡ Err KeyNotHeld }
+    ensures found { result.found ≡ Ok (Some 30) }
+    ensures from { result.from ≡ Ok (Some (entry (record { 0 = 3 }) 30)) }
+    ensures after { result.after ≡ Ok None }
     ensures moved { result.moved ≡ Some (record { left = Some 0; right = None; height = 2; ticket = 30 }) }
     ensures emptied { result.emptied ≡ None }
     ensures free { result.first_free ≡ Some 2 }

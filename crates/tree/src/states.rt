@@ -1,11 +1,11 @@
 //! A tree's numbers beside its node memory, and each call over both.
 
 ghost use Rattle.std.specs.Prelude.{◌≡◌, ◌<◌, true, length, Err};
-ghost use Rattle.keys.specs.Refusals.{numbered};
 ghost use Rattle.books.specs.Calls.{Add, Take, Find, Added, Taken, Found, Sought};
 ghost use Rattle.books.specs.Meaning.{usable};
 ghost use Rattle.avl.specs.Model.{tree_step};
 ghost use Rattle.tree.specs.States.{sound_in, model_of, Means, NextSpot, MadeFree, counted_state, seek_call};
+ghost use Rattle.keys.specs.declared.refusals.Refusal.TheVariants.{NoSlots};
 
 use crate::changes::{insert, remove};
 use crate::descents::{find_below, seek_below};
@@ -104,7 +104,7 @@ pub(crate) fn add_in<K: OrderedKey>(
     ticket: u32,
 ) -> Done<()>
     requires { sound_in nodes.old state ≡ true }
-    ensures answer { Added (numbered result.answer) ≡ (tree_step K.OrderedKey.order (model_of nodes.old state) (Add key.now ticket)).0 }
+    ensures answer { Added result.answer ≡ (tree_step K.OrderedKey.order (model_of nodes.old state) (Add key.now ticket)).0 }
     ensures left { Means nodes.new result.state (tree_step K.OrderedKey.order (model_of nodes.old state) (Add key.now ticket)).1 }
 {
     if slots_served(nodes) == 0 {
@@ -133,7 +133,7 @@ pub(crate) fn add_in<K: OrderedKey>(
 /// Takes the pair of a key out.
 pub(crate) fn take_in<K: OrderedKey>(nodes: &mut [Node<K>], state: State, key: &K) -> Done<u32>
     requires { sound_in nodes.old state ≡ true }
-    ensures answer { Taken (numbered result.answer) ≡ (tree_step K.OrderedKey.order (model_of nodes.old state) (Take key.now)).0 }
+    ensures answer { Taken result.answer ≡ (tree_step K.OrderedKey.order (model_of nodes.old state) (Take key.now)).0 }
     ensures left { Means nodes.new result.state (tree_step K.OrderedKey.order (model_of nodes.old state) (Take key.now)).1 }
 {
     if slots_served(nodes) == 0 {
@@ -164,7 +164,7 @@ pub(crate) fn take_in<K: OrderedKey>(nodes: &mut [Node<K>], state: State, key: &
 /// Finds the ticket of a key.
 pub(crate) fn find_in<K: OrderedKey>(core: &Core<K>, key: &K) -> Done<Option<u32>>
     requires { sound_in core.now.nodes.now core.now.state ≡ true }
-    ensures answer { Found (numbered result.answer) ≡ (tree_step K.OrderedKey.order (model_of core.now.nodes.now core.now.state) (Find key.now)).0 }
+    ensures answer { Found result.answer ≡ (tree_step K.OrderedKey.order (model_of core.now.nodes.now core.now.state) (Find key.now)).0 }
     ensures left { Means core.now.nodes.now result.state (tree_step K.OrderedKey.order (model_of core.now.nodes.now core.now.state) (Find key.now)).1 }
 {
     if slots_served(core.nodes) == 0 {
@@ -180,7 +180,7 @@ pub(crate) fn find_in<K: OrderedKey>(core: &Core<K>, key: &K) -> Done<Option<u32
 /// Seeks from a key, or with `after` past it.
 pub(crate) fn seek_in<K: OrderedKey>(core: &Core<K>, key: &K, after: bool) -> Done<Option<Entry<K>>>
     requires { sound_in core.now.nodes.now core.now.state ≡ true }
-    ensures answer { Sought (numbered result.answer) ≡ (tree_step K.OrderedKey.order (model_of core.now.nodes.now core.now.state) (seek_call after key.now)).0 }
+    ensures answer { Sought result.answer ≡ (tree_step K.OrderedKey.order (model_of core.now.nodes.now core.now.state) (seek_call after key.now)).0 }
     ensures left { Means core.now.nodes.now result.state (tree_step K.OrderedKey.order (model_of core.now.nodes.now core.now.state) (seek_call after key.now)).1 }
 {
     if slots_served(core.nodes) == 0 {
@@ -205,7 +205,7 @@ fn counted(state: State, comparisons: u32) -> State
 // Memory that serves as none has no slots to look at, and no comparison is made.
 fn unserved<A>(state: State) -> Done<A>
     ensures state { result.state ≡ counted_state state 0 }
-    ensures answer { numbered result.answer ≡ Err 9 }
+    ensures answer { result.answer ≡ Err NoSlots }
 {
     Done {
         state: counted(state, 0),

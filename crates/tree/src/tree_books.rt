@@ -1,7 +1,6 @@
 //! The tree as a book, and what it shows besides.
 
 ghost use Rattle.std.specs.Prelude.{◌≡◌, true, map, length};
-ghost use Rattle.keys.specs.Refusals.{numbered};
 ghost use Rattle.books.specs.Calls.{Add, Take, Find, Added, Taken, Found, Sought};
 ghost use Rattle.books.specs.Meaning.{known, usable};
 ghost use Rattle.avl.specs.Avl.{entries};
@@ -79,7 +78,7 @@ impl<'a, K: OrderedKey> Tree<'a, K> {
 fn add_core<K: OrderedKey>(core: &mut Core<K>, key: &K, ticket: u32) -> Result<(), Refusal>
     requires { sound_in core.old.nodes.now core.old.state ≡ true }
     ensures sound { sound_in core.new.nodes.now core.new.state ≡ true }
-    ensures answer { Added (numbered result) ≡ (tree_step K.OrderedKey.order (model_of core.old.nodes.now core.old.state) (Add key.now ticket)).0 }
+    ensures answer { Added result ≡ (tree_step K.OrderedKey.order (model_of core.old.nodes.now core.old.state) (Add key.now ticket)).0 }
     ensures left { model_of core.new.nodes.now core.new.state ≡ (tree_step K.OrderedKey.order (model_of core.old.nodes.now core.old.state) (Add key.now ticket)).1 }
 {
     let state = core.state;
@@ -91,7 +90,7 @@ fn add_core<K: OrderedKey>(core: &mut Core<K>, key: &K, ticket: u32) -> Result<(
 fn take_core<K: OrderedKey>(core: &mut Core<K>, key: &K) -> Result<u32, Refusal>
     requires { sound_in core.old.nodes.now core.old.state ≡ true }
     ensures sound { sound_in core.new.nodes.now core.new.state ≡ true }
-    ensures answer { Taken (numbered result) ≡ (tree_step K.OrderedKey.order (model_of core.old.nodes.now core.old.state) (Take key.now)).0 }
+    ensures answer { Taken result ≡ (tree_step K.OrderedKey.order (model_of core.old.nodes.now core.old.state) (Take key.now)).0 }
     ensures left { model_of core.new.nodes.now core.new.state ≡ (tree_step K.OrderedKey.order (model_of core.old.nodes.now core.old.state) (Take key.now)).1 }
 {
     let state = core.state;
@@ -103,7 +102,7 @@ fn take_core<K: OrderedKey>(core: &mut Core<K>, key: &K) -> Result<u32, Refusal>
 fn find_core<K: OrderedKey>(core: &mut Core<K>, key: &K) -> Result<Option<u32>, Refusal>
     requires { sound_in core.old.nodes.now core.old.state ≡ true }
     ensures sound { sound_in core.new.nodes.now core.new.state ≡ true }
-    ensures answer { Found (numbered result) ≡ (tree_step K.OrderedKey.order (model_of core.old.nodes.now core.old.state) (Find key.now)).0 }
+    ensures answer { Found result ≡ (tree_step K.OrderedKey.order (model_of core.old.nodes.now core.old.state) (Find key.now)).0 }
     ensures left { model_of core.new.nodes.now core.new.state ≡ (tree_step K.OrderedKey.order (model_of core.old.nodes.now core.old.state) (Find key.now)).1 }
 {
     let done = find_in(core, key);
@@ -118,7 +117,7 @@ fn seek_core<K: OrderedKey>(
 ) -> Result<Option<Entry<K>>, Refusal>
     requires { sound_in core.old.nodes.now core.old.state ≡ true }
     ensures sound { sound_in core.new.nodes.now core.new.state ≡ true }
-    ensures answer { Sought (numbered result) ≡ (tree_step K.OrderedKey.order (model_of core.old.nodes.now core.old.state) (seek_call after key.now)).0 }
+    ensures answer { Sought result ≡ (tree_step K.OrderedKey.order (model_of core.old.nodes.now core.old.state) (seek_call after key.now)).0 }
     ensures left { model_of core.new.nodes.now core.new.state ≡ (tree_step K.OrderedKey.order (model_of core.old.nodes.now core.old.state) (seek_call after key.now)).1 }
 {
     let done = seek_in(core, key, after);

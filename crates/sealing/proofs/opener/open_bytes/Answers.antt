@@ -1,7 +1,6 @@
 use Rattle.std.proofs.Common.{◌≡◌, ◌-◌, ◌%◌, ◌≤◌, [], length, replicate, Some, None, Err, sym, refl, ap, ◌∙◌, arith, rules}
 use Rattle.std.proofs.lemmas.Nat.{one_shl}
 use Rattle.std.proofs.lemmas.Result.{err_from_is_err_and}
-use Rattle.keys.specs.Refusals.{numbered}
 use Rattle.sealing.specs.Masking.{unmasked}
 use Rattle.sealing.specs.Opened.{bytes_of, found_answer}
 use Rattle.sealing.proofs.Walking.{steps_on, never_refused}

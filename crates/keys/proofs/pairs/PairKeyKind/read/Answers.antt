@@ -1,5 +1,4 @@
 use Rattle.std.proofs.lemmas.Result.{err_from_is_err_and}
-use Rattle.keys.specs.Refusals.{refusal_number}
 use Rattle.keys.specs.PairKeys.{read_first_refused, read_second_refused, read_both}
 use Rattle.keys.proofs.pairs.PairKeyKind.read.Goals as goal
 
@@ -9,7 +8,7 @@ returns-in_err-first g c =
     rw (p.1, p.2)
     (read_first_refused g.A.KeyKind.width g.B.KeyKind.width c.width.result c.args.bytes.now c.width.ensures c.in_ok-ask_width.ensures
     (λ a b. record { first = a; second = b }) g.A.KeyKind.decode g.B.KeyKind.decode
-    (refusal_number c.in_err-first.field-0.0) c.in_err-first.ensures)
+    c.in_err-first.field-0.0 c.in_err-first.ensures)
 
 pub returns-in_err-second : goal.returns-in_err-second
 returns-in_err-second g c =
@@ -18,7 +17,7 @@ returns-in_err-second g c =
     (read_second_refused g.A.KeyKind.width g.B.KeyKind.width c.width.result c.args.bytes.now c.width.ensures c.in_ok-ask_width.ensures
     (λ a b. record { first = a; second = b }) g.A.KeyKind.decode g.B.KeyKind.decode
     c.width-split.result c.width-split.ensures c.in_ok-first.first c.in_ok-first.ensures
-    (refusal_number c.in_err-second.field-0.0) c.in_err-second.ensures)
+    c.in_err-second.field-0.0 c.in_err-second.ensures)
 
 pub returns : goal.returns
 returns g c =
