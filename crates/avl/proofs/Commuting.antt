@@ -79,5 +79,5 @@ either_shown g false x y x' y' p q = q
 pub steps_commute : (K L : Type 0) → TreeStepsCommute K L
 steps_commute K L g order order' m c kept =
     let r = either_shown g (eqb m.room 0) (refused c NoSlots, counted 0 m) (served_step order m c) (refused (relabelled_call g c) NoSlots, counted 0 (relabelled_model g m)) _
-    (record { answers = refused_shown g c 9; leaves = refl }) (served_shown g order order' m c kept) in
+    (record { answers = refused_shown g c NoSlots; leaves = refl }) (served_shown g order order' m c kept) in
     record { answers = r.answers; leaves = r.leaves }

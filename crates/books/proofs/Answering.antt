@@ -8,13 +8,13 @@ use Rattle.books.specs.Calls.{Call, Add, Take, Find, SeekFrom, SeekAfter, Found,
 use Rattle.books.specs.Plain.{add_answer, take_answer, where_ok}
 use Rattle.books.specs.Meaning.{known, Finds, Seeks, Moves, Meaning}
 use Rattle.keys.specs.declared.refusals.Refusal.{Refusal}
-use Rattle.keys.specs.declared.refusals.Refusal.TheVariants.{NoSlots, BookFull, KeyNotHeld}
+use Rattle.keys.specs.declared.refusals.Refusal.TheVariants.{NoSlots, KeyHeld, BookFull, KeyNotHeld}
 
 -- an add is accepted where no ticket is found and there is room
 pub add_all : (P : Result (Unit {0}) Refusal → Type 0) (found : Option ℕ) (count room : ℕ) →
     (found ≡ None → count < room → P (Ok tt)) → ((refusal : Refusal) → P (Err refusal)) → P (add_answer found count room)
-add_all P None count room accepted declined = cond_both (ltb count room) (Ok tt) (Err BookFull) P (λ t. accepted refl (ltb-true _ _ t)) (λ _. declined 11)
-add_all P (Some ticket) count room accepted declined = declined 10
+add_all P None count room accepted declined = cond_both (ltb count room) (Ok tt) (Err BookFull) P (λ t. accepted refl (ltb-true _ _ t)) (λ _. declined BookFull)
+add_all P (Some ticket) count room accepted declined = declined KeyHeld
 
 -- a take is accepted where a ticket is found
 pub take_all : (P : Result ℕ Refusal → Type 0) (found : Option ℕ) → ((ticket : ℕ) → found ≡ Some ticket → P (Ok ticket)) → P (Err KeyNotHeld) → P (take_answer found)
@@ -37,7 +37,7 @@ refused_moves (SeekAfter s) refusal pairs = (tt, refl)
 pub unserved_means : {K I : Type 0} (order : K → K → Ordering) (family : I → K → Type 0) (pairs : List (Option K × ℕ)) (room : ℕ) (c : Call K) →
     room ≡ 0 → Meaning order family pairs room c (refused c NoSlots) pairs room
 unserved_means order family pairs room c e =
-    record { in_good_order = λ i es shown good kin. inr (record { roomless = e; answers = refl; leaves = refl }); in_any_order = refused_moves c 9 pairs; room_stays = refl }
+    record { in_good_order = λ i es shown good kin. inr (record { roomless = e; answers = refl; leaves = refl }); in_any_order = refused_moves c NoSlots pairs; room_stays = refl }
 
 -- an answer that has what each pair held has, is of a pair held
 pub found_held : {K : Type 0} (found : Option ℕ) (pairs : List (Option K × ℕ)) → IfSome found (λ ticket. (key : Option K) × Has pairs (key, ticket)) → Finds {K = K} (Found (Ok found)) pairs

@@ -1,4 +1,4 @@
--- What a book is asked, and what it answers. Refusals go by their numbers.
+-- What a book is asked, and what it answers.
 use Rattle.std.specs.Prelude.{ℕ, Err, Option, Result}
 use Rattle.books.specs.declared.entries.Entry.{Entry}
 use Rattle.keys.specs.declared.refusals.Refusal.{Refusal}
@@ -24,8 +24,8 @@ call_key (Find s) = s
 call_key (SeekFrom s) = s
 call_key (SeekAfter s) = s
 
--- a call declined by its number
-abbrev pub refused : {K : Type 0} → Call K → ℕ → Answer K
+-- a call declined
+abbrev pub refused : {K : Type 0} → Call K → Refusal → Answer K
 refused (Add s ticket) refusal = Added (Err refusal)
 refused (Take s) refusal = Taken (Err refusal)
 refused (Find s) refusal = Found (Err refusal)
