@@ -51,41 +51,7 @@ order_same m n h = grind (arith, nat_tests)
 pub order_greater : (m n : ℕ) → n < m → number_order m n ≡ Greater
 order_greater m n h = grind (arith, nat_tests)
 
-pub less_from_order : (m n : ℕ) → number_order m n ≡ Less → m < n
-less_from_order m n h = grind (arith, nat_tests)
-
-pub number_order_flips : (m n : ℕ) → number_order m n ≡ ordering_reverse (number_order n m)
-number_order_flips m n = grind (arith, nat_tests)
-
-pub number_order_chains : (k m n : ℕ) → number_order k m ≡ Less → number_order m n ≡ Less → number_order k n ≡ Less
-number_order_chains k m n p q = order_less k n (omega (arith, less_from_order k m p, less_from_order m n q))
-
-pub number_order_same : (m n : ℕ) → number_order m n ≡ Equal → m ≡ n
-number_order_same m n h = grind (arith, nat_tests)
-
 -- rows
-
-pub row_order_flips : (a b : List ℕ) → row_order a b ≡ ordering_reverse (row_order b a)
-row_order_flips [] [] = refl
-row_order_flips [] (n ∷ ns) = refl
-row_order_flips (m ∷ ms) [] = refl
-row_order_flips (m ∷ ms) (n ∷ ns) = then_flips (number_order m n) (row_order ms ns) (number_order n m) (row_order ns ms) (number_order_flips m n) (row_order_flips ms ns)
-
-pub row_order_chains : (a b c : List ℕ) → row_order a b ≡ Less → row_order b c ≡ Less → row_order a c ≡ Less
-row_order_chains [] [] c p q = cc
-row_order_chains [] (m ∷ ms) [] p q = cc
-row_order_chains [] (m ∷ ms) (n ∷ ns) p q = refl
-row_order_chains (l ∷ ls) [] c p q = cc
-row_order_chains (l ∷ ls) (m ∷ ms) [] p q = q
-row_order_chains (l ∷ ls) (m ∷ ms) (n ∷ ns) p q = then_chains (number_order l m) (number_order m n) (number_order l n) (row_order ls ms) (row_order ms ns) (row_order ls ns) (number_order_chains l m n) (λ e. ap (λ k. number_order k n) (number_order_same l m e)) (λ e. ap (number_order l) (sym (number_order_same m n e))) (row_order_chains ls ms ns) p q
-
-pub row_order_same : (a b : List ℕ) → row_order a b ≡ Equal → a ≡ b
-row_order_same [] [] e = refl
-row_order_same [] (n ∷ ns) e = cc
-row_order_same (m ∷ ms) [] e = cc
-row_order_same (m ∷ ms) (n ∷ ns) e =
-    let both = then_same (number_order m n) (row_order ms ns) e in
-    cc (number_order_same m n both.0, row_order_same ms ns both.1)
 
 pub row_order_append : (a b c d : List ℕ) → length a ≡ length b → row_order (a ++ c) (b ++ d) ≡ ordering_then (row_order a b) (row_order c d)
 row_order_append [] [] c d e = refl

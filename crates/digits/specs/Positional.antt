@@ -1,5 +1,6 @@
 -- Positional notation: the digits of a number, and rows of digits packed into numbers, the most significant first.
-use Rattle.std.specs.Prelude.{ℕ, zero, suc, ◌+◌, ◌*◌, ◌/◌, ◌%◌, ◌^◌, Bool, true, ◌&&◌, List, [], ◌∷◌, ◌++◌, map, drop, ◌==◌, nat_eq}
+use Rattle.std.specs.Prelude.{ℕ, zero, suc, ◌+◌, ◌*◌, ◌/◌, ◌%◌, ◌^◌, Bool, List, [], ◌∷◌, ◌++◌, map, drop, ◌==◌, nat_eq}
+use Rattle.std.specs.List.{list_all}
 
 -- the k last digits of a number in a radix, the most significant first
 abbrev pub digits : ℕ → ℕ → ℕ → List ℕ
@@ -32,5 +33,4 @@ trits bytes = unpacked 3 5 bytes
 
 -- is each of these digits 0?
 abbrev pub all_zero : List ℕ → Bool
-all_zero [] = true
-all_zero (d ∷ ds) = d == 0 && all_zero ds
+all_zero = list_all (λ d. d == 0)

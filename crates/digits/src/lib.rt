@@ -11,18 +11,18 @@ pub const TRIT_WEIGHTS: [u8; 5] = [81, 27, 9, 3, 1];
 pub fn bit_at(bytes: &[u8], i: usize) -> bool
     ensures { result ≡ slice_index_or (bits bytes.now) i false }
 {
-    if i / 8 >= bytes.len() {
-        return false;
+    match bytes.get(i / 8) {
+        Some(byte) => (*byte >> (7 - i % 8)) % 2 == 1,
+        None => false,
     }
-    (bytes[i / 8] >> (7 - i % 8)) % 2 == 1
 }
 
 /// Trit `i` of the bytes, from 0, five to a byte; past the end it is 0.
 pub fn trit_at(bytes: &[u8], i: usize) -> u8
     ensures { result ≡ slice_index (trits bytes.now) i }
 {
-    if i / 5 >= bytes.len() {
-        return 0;
+    match bytes.get(i / 5) {
+        Some(byte) => *byte / TRIT_WEIGHTS[i % 5] % 3,
+        None => 0,
     }
-    bytes[i / 5] / TRIT_WEIGHTS[i % 5] % 3
 }

@@ -1,6 +1,6 @@
 -- The kinds of numbers: counts, and levels, which are signed. Their keys are 4 bytes, the most significant first.
-use Rattle.std.specs.Prelude.{ℕ, ◌^◌, cond, List, length, ℤ, pos, ◌+ℤ◌, ◌-ℤ◌, Some, None, Option, ◌==◌, int_lt, unsigned_abs}
-use Rattle.std.specs.declared.cmp.Ordering.TheVariants.{Less, Equal, Greater}
+use Rattle.std.specs.Prelude.{ℕ, ◌^◌, cond, List, length, ℤ, pos, ◌+ℤ◌, ◌-ℤ◌, Some, None, Option, ◌==◌, unsigned_abs}
+use Rattle.std.specs.Ordering.{int_cmp}
 use Rattle.std.specs.declared.cmp.Ordering.{Ordering}
 use Rattle.digits.specs.Positional.{digits, weighed}
 use Rattle.keys.specs.declared.counts.Count.{Count}
@@ -17,7 +17,7 @@ abbrev pub count : ℕ → Count
 count n = record { 0 = n }
 
 abbrev pub integer_order : ℤ → ℤ → Ordering
-integer_order a b = cond (int_lt a b) Less (cond (int_lt b a) Greater Equal)
+integer_order = int_cmp
 
 -- how far a level lies above the lowest one, which is at −2^31
 abbrev pub raised : ℤ → ℕ

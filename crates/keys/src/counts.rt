@@ -5,6 +5,7 @@ ghost use Rattle.std.proofs.Common.{rules, sym, arith};
 ghost use Rattle.digits.proofs.Ordering.{digits_order_within};
 ghost use Rattle.keys.specs.NumbersLemmas.{number_writes};
 
+use crate::kinds::write_front;
 use crate::{KeyKind, OrderedKey, Refusal};
 use std::cmp::Ordering;
 
@@ -61,18 +62,11 @@ impl KeyKind for Count {
     }
 
     fn write(&self, out: &mut [u8]) -> Result<(), Refusal> {
-        let key = self.0.to_be_bytes();
-        if out.len() < 4 {
-            return Err(Refusal::ShortBuffer);
-        }
-        out[0..4].copy_from_slice(&key);
-        Ok(())
+        write_front(&self.0.to_be_bytes(), out)
     }
 
     fn read(bytes: &[u8]) -> Result<Count, Refusal> {
-        if bytes.len() < 4 {
-            return Err(Refusal::ShortBuffer);
-        }
-        Ok(Count(u32::from_be_bytes([bytes[0], bytes[1], bytes[2], bytes[3]])))
+        let key = bytes.first_chunk::<4>().ok_or(Refusal::ShortBuffer)?;
+        Ok(Count(u32::from_be_bytes(*key)))
     }
 }

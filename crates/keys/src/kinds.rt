@@ -1,6 +1,6 @@
 ghost use Rattle.std.specs.Prelude.{◌≡◌, ℕ, List, length, Some, Option as TheOption};
 ghost use Rattle.digits.specs.Orders.{row_order};
-ghost use Rattle.keys.specs.Kinds.{Bytes, Served, write_answer, written, read_answer};
+ghost use Rattle.keys.specs.Kinds.{Bytes, served, Served, write_answer, written, read_answer};
 
 use crate::{OrderedKey, Refusal};
 
@@ -38,6 +38,26 @@ pub trait KeyKind: OrderedKey {
 
     // the values of a kind are a family
     ghost gathers: { Served width → (i : Self.OrderedKey.Index) × ((v : Self) → Self.OrderedKey.lawful v → Self.OrderedKey.family i v) };
+}
+
+/// Whether books and ciphers serve keys of this width: 1 to 32 bytes.
+pub fn is_served(width: u8) -> bool
+    ensures { result ≡ served width }
+{
+    (1..=32).contains(&width)
+}
+
+// Writes key bytes into the front of a buffer.
+pub(crate) fn write_front(key: &[u8], out: &mut [u8]) -> Result<(), Refusal>
+    requires { Served (length key.now) }
+    ensures answer { result ≡ write_answer (length key.now) (length out.old) }
+    ensures left { out.new ≡ written (length key.now) key.now out.old }
+{
+    if out.len() < key.len() {
+        return Err(Refusal::ShortBuffer);
+    }
+    out[..key.len()].copy_from_slice(key);
+    Ok(())
 }
 
 /// Does nothing: what a slice of bytes holds are bytes, which a proof knows once the slice is used.

@@ -1,28 +1,41 @@
-ghost use Rattle.std.specs.Prelude.{◌≡◌, true, not};
-ghost use Rattle.std.proofs.Common.{sym, ap, subst, rules, arith};
-ghost use Rattle.std.specs.Result.{result_map_both};
+ghost use Rattle.std.specs.Prelude.{◌≡◌, ℕ, List, true, position};
+ghost use Rattle.std.proofs.Common.{rules};
 ghost use Rattle.digits.specs.Orders.{row_order};
+ghost use Rattle.digits.specs.Positional.{all_zero};
 ghost use Rattle.keys.specs.Kinds.{Bytes};
-ghost use Rattle.keys.specs.Names.{filled, is_name, named, none_zero, unfilled, where_true};
-ghost use Rattle.digits.proofs.Ordering.{row_order_flips, row_order_chains, row_order_same};
-ghost use Rattle.keys.specs.NameKeys.{same_name, where_true_some, where_true_parts};
+ghost use Rattle.keys.specs.Names.{IsName, is_name, is_zero, named, unfilled, fill, name_decoded};
+ghost use Rattle.std.proofs.lemmas.Cmp.{nat_list_cmp_total};
+ghost use Rattle.std.specs.FinMap.{nat_cmp-IsAntisymmetric, slice_cmp-IsAntisymmetric};
+ghost use Rattle.keys.specs.NameKeys.{name_length, name_is_read, read_is_name};
 
+use crate::kinds::write_front;
 use crate::{KeyKind, OrderedKey, Refusal, are_bytes};
 use std::cmp::Ordering;
+use std::marker::Model;
 
 /// A name of up to 16 bytes, none of them zero, filled up with zeros.
 #[derive(Clone, Copy)]
 pub struct Name {
     bytes: [u8; 16],
-    ghost ok: { is_name bytes ≡ true },
+}
+
+// A name stands for its 16 key bytes.
+impl Model for Name {
+    ghost Value = { List ℕ };
+
+    ghost view = { λ n. n.bytes };
+
+    ghost inverse = { λ bytes. record { bytes = bytes } };
+
+    ghost invariant = { λ n. is_name n.bytes ≡ true };
 }
 
 impl Name {
     /// The name of these bytes.
     pub fn new(text: &[u8]) -> Result<Name, Refusal>
-        ensures { result_map_both (λ n. n.bytes) (λ e. e) result ≡ named text.now }
+        ensures { result ≡ named text.now }
     {
-        if text.len() > 16 || has_zero(text) {
+        if text.len() > 16 || text.contains(&0) {
             return Err(Refusal::NoValue);
         }
         let mut bytes = [0; 16];
@@ -32,67 +45,50 @@ impl Name {
 
     /// The bytes without the fill.
     pub fn text(&self) -> &[u8]
-        ensures { result.now ≡ unfilled self.now.bytes }
+        ensures { result.now ≡ unfilled self.now }
     {
-        before_zero(&self.bytes)
+        split_fill(&self.bytes).0
     }
 }
 
-fn has_zero(text: &[u8]) -> bool
-    ensures { result ≡ not (none_zero text.now) }
+fn first_zero(bytes: &[u8]) -> Option<usize>
+    ensures { result ≡ position is_zero bytes.now }
 {
-    text.contains(&0)
+    bytes.iter().position(|b| *b == 0)
 }
 
-fn before_zero(bytes: &[u8]) -> &[u8]
-    ensures { result.now ≡ unfilled bytes.now }
+fn are_zeros(bytes: &[u8]) -> bool
+    ensures { result ≡ all_zero bytes.now }
 {
-    for (i, b) in bytes.iter().enumerate() {
-        if *b == 0 {
-            return &bytes[..i];
-        }
-    }
-    bytes
+    bytes.iter().all(|b| *b == 0)
 }
 
-// Whether zeros stand only at the end.
-fn is_filled(bytes: &[u8]) -> bool
-    ensures { result ≡ filled bytes.now }
+// The bytes before the first zero, and those from there on.
+fn split_fill(bytes: &[u8]) -> (&[u8], &[u8])
+    ensures text { result.0.now ≡ unfilled bytes.now }
+    ensures fill { result.1.now ≡ fill bytes.now }
 {
-    let mut ended = false;
-    for b in bytes {
-        if *b == 0 {
-            ended = true;
-        } else if ended {
-            return false;
-        }
-    }
-    true
+    let end = first_zero(bytes).unwrap_or(bytes.len());
+    bytes.split_at(end)
 }
 
 impl OrderedKey for Name {
-    ghost order = { λ m n. row_order m.bytes n.bytes };
+    ghost order = { row_order };
 
-    ghost lawful = { λ n. Bytes n.bytes };
+    ghost lawful = { IsName };
 
     ghost Index = { Unit {0} };
 
-    ghost family = { λ _ n. Bytes n.bytes };
+    ghost family = { λ _ n. IsName n };
 
-    ghost flips = { λ i a b f f'. row_order_flips a.bytes b.bytes };
+    ghost flips = { λ i a b f f'. nat_list_cmp_total.antisymm a b };
 
-    ghost chains = { λ i a b c f f' f'' p q. row_order_chains a.bytes b.bytes c.bytes p q };
+    ghost chains = { λ i a b c f f' f'' p q. nat_list_cmp_total.trans a b c p q };
 
-    ghost same = { λ i a b f f' e. same_name (λ bytes ok. record { bytes = bytes; ok = ok }) a.bytes b.bytes a.ok b.ok (row_order_same a.bytes b.bytes e) };
+    ghost same = { λ i a b f f' e. slice_cmp-IsAntisymmetric nat_cmp-IsAntisymmetric a b e };
 
     fn compare(&self, other: &Name) -> Ordering {
-        for i in 0..16 {
-            match self.bytes[i].cmp(&other.bytes[i]) {
-                Ordering::Equal => {}
-                decided => return decided,
-            }
-        }
-        Ordering::Equal
+        self.bytes.cmp(&other.bytes)
     }
 
     fn is_lawful(&self) {
@@ -103,45 +99,34 @@ impl OrderedKey for Name {
 impl KeyKind for Name {
     ghost width = { 16 };
 
-    ghost encode = { λ n. n.bytes };
+    ghost encode = { λ n. n };
 
-    ghost decode = { λ key. where_true (is_name key) (λ e. record { bytes = key; ok = e }) };
+    ghost decode = { name_decoded };
 
-    ghost wide = { first_of (Prim.search rules, Prim.grind (arith, Self.row.coded.inj)) };
+    ghost wide = { λ v h s. name_length v h.named };
 
-    ghost bytes = { first_of (Prim.search rules, Prim.grind (arith, Self.row.coded.inj)) };
+    ghost bytes = { λ v h s. h.small };
 
-    ghost ordered = { first_of (Prim.search rules, Prim.grind (arith, Self.row.coded.inj)) };
+    ghost ordered = { Prim.search rules };
 
-    ghost reads = { λ v h s. where_true_some (is_name v.bytes) (λ e. record { bytes = v.bytes; ok = e }) v.ok };
+    ghost reads = { λ v h s. name_is_read v h.named };
 
-    ghost writes = { λ key v small s e.
-        let p = where_true_parts (is_name key) (λ ok. record { bytes = key; ok = ok }) v e in
-        let same = ap (λ n. n.bytes) p.1 in
-        (subst Bytes same small, sym same) };
+    ghost writes = { λ key v small s e. read_is_name key v small e };
 
-    ghost gathers = { first_of (Prim.search rules, Prim.grind (arith, Self.row.coded.inj)) };
+    ghost gathers = { Prim.search rules };
 
     fn width() -> u8 {
         16
     }
 
     fn write(&self, out: &mut [u8]) -> Result<(), Refusal> {
-        if out.len() < 16 {
-            return Err(Refusal::ShortBuffer);
-        }
-        out[..16].copy_from_slice(&self.bytes);
-        Ok(())
+        write_front(&self.bytes, out)
     }
 
     fn read(bytes: &[u8]) -> Result<Name, Refusal> {
-        if bytes.len() < 16 {
-            return Err(Refusal::ShortBuffer);
-        }
-        let mut own = [0; 16];
-        own.copy_from_slice(&bytes[..16]);
-        if is_filled(&own) {
-            Ok(Name { bytes: own })
+        let bytes = *bytes.first_chunk().ok_or(Refusal::ShortBuffer)?;
+        if are_zeros(split_fill(&bytes).1) {
+            Ok(Name { bytes })
         } else {
             Err(Refusal::NoValue)
         }
