@@ -1,2 +1,0 @@
-mod LittleEndian
-mod Words

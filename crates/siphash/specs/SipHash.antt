@@ -1,11 +1,12 @@
 -- SipHash-2-4 (Aumasson and Bernstein, 2012) over numbers: a byte is below 256, a word below 2 ^ 64.
-use Rattle.std.specs.Prelude.{ℕ, zero, suc, ◌+◌, ◌-◌, ◌*◌, ◌/◌, ◌%◌, ◌^◌, List, [], ◌∷◌, length, take, drop, bit_or, bit_xor}
+use Rattle.std.specs.Prelude.{ℕ, ◌+◌, ◌-◌, ◌*◌, ◌/◌, ◌%◌, ◌^◌, List, [], ◌∷◌, fold, length, take, drop, bit_or, bit_xor}
+use Rattle.std.specs.Int.{w64, from_le_bytes}
+use Rattle.std.specs.Simd.{first_chunks}
 use Rattle.siphash.specs.declared.State.{State}
 
--- The number that bytes stand for, the least significant byte first.
+-- The number that at most eight bytes stand for, the least significant byte first.
 abbrev pub little_endian : List ℕ → ℕ
-little_endian [] = 0
-little_endian (b ∷ bs) = little_endian bs * 256 + b
+little_endian = from_le_bytes w64
 
 -- The eight bytes of a word, the least significant byte first.
 abbrev pub word_bytes : ℕ → List ℕ
@@ -44,10 +45,9 @@ compress m s =
     let t = sip_round (sip_round (record { v0 = s.v0; v1 = s.v1; v2 = s.v2; v3 = bit_xor s.v3 m })) in
     record { v0 = bit_xor t.v0 m; v1 = t.v1; v2 = t.v2; v3 = t.v3 }
 
--- Compression of the first n words of the message, eight bytes each.
-abbrev pub compress_words : ℕ → List ℕ → State → State
-compress_words zero bs s = s
-compress_words (suc n) bs s = compress_words n (drop 8 bs) (compress (little_endian (take 8 bs)) s)
+-- Compression of the message's whole words, eight bytes each.
+abbrev pub compress_words : List ℕ → State → State
+compress_words bs s = fold (λ t word. compress (little_endian word) t) s (first_chunks 8 (length bs / 8) bs)
 
 -- The last word: the bytes that fill no whole word, then zeros, and in the top byte the message's length modulo 256.
 unfoldable pub last_word : List ℕ → ℕ
@@ -62,4 +62,4 @@ finalize s =
 -- SipHash-2-4 of a message under a key of 16 bytes.
 unfoldable pub siphash : List ℕ → List ℕ → ℕ
 siphash key message =
-    finalize (compress (last_word message) (compress_words (length message / 8) message (initialize key)))
+    finalize (compress (last_word message) (compress_words message (initialize key)))

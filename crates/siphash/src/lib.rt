@@ -2,8 +2,8 @@
 
 #![tactic(auto)]
 
-ghost use Rattle.std.specs.Prelude.{◌≡◌, ◌^◌, ◌<◌, ◌≤◌, length};
-ghost use Rattle.siphash.specs.SipHash.{little_endian, word_bytes, sip_round, initialize, compress, last_word, finalize, siphash};
+ghost use Rattle.std.specs.Prelude.{◌≡◌, ◌+◌, ◌*◌, ◌%◌, ◌^◌, ◌<◌, fold, length};
+ghost use Rattle.siphash.specs.SipHash.{little_endian, word_bytes, sip_round, initialize, compress, finalize, siphash};
 
 /// The four words that the hash mixes.
 #[derive(Clone, Copy)]
@@ -20,8 +20,9 @@ impl State {
     fn new(key: &[u8; 16]) -> State
         ensures { result ≡ initialize key.now }
     {
-        let k0 = word(&key[0..8]);
-        let k1 = word(&key[8..16]);
+        let (words, _) = key.as_chunks::<8>();
+        let k0 = u64::from_le_bytes(words[0]);
+        let k1 = u64::from_le_bytes(words[1]);
         State {
             v0: k0 ^ 0x736f6d6570736575,
             v1: k1 ^ 0x646f72616e646f6d,
@@ -76,39 +77,34 @@ impl State {
     }
 }
 
-/// The number that at most eight bytes stand for, the least significant byte first. Fewer than
-/// eight bytes are allowed, since the end of a message seldom fills a word.
-fn word(bytes: &[u8]) -> u64
-    requires { length bytes.now ≤ 8 }
-    ensures value { result ≡ little_endian bytes.now }
-    ensures below { result < 256 ^ length bytes.now }
+// Mixes whole words in, one after the other.
+fn compress_words(state: State, words: &[[u8; 8]]) -> State
+    ensures { result ≡ fold (λ s word. compress (little_endian word) s) state words.now }
 {
-    let mut number = 0u64;
-    for i in (0..bytes.len()).rev() {
-        number = number * 256 + bytes[i] as u64;
-    }
-    number
+    words.iter().fold(state, |state, word| {
+        state.compress(u64::from_le_bytes(*word))
+    })
 }
 
 /// The word that ends every message: the bytes after its last whole word, at most seven of them,
 /// and the length modulo 256 as the top byte, so that trailing zeros count.
-fn last_word(message: &[u8]) -> u64
-    ensures { result ≡ last_word message.now }
+fn last_word(rest: &[u8], len: usize) -> u64
+    requires { length rest.now < 8 }
+    ensures { result ≡ (len % 256) * 2 ^ 56 + little_endian rest.now }
 {
-    let len = message.len();
-    let rest = word(&message[len / 8 * 8..]);
-    (len % 256) as u64 * (1 << 56) + rest
+    let mut word = [0; 8];
+    word[..rest.len()].copy_from_slice(rest);
+    word[7] = (len % 256) as u8;
+    u64::from_le_bytes(word)
 }
 
 /// SipHash-2-4 of the message under the key.
 pub fn hash(key: &[u8; 16], message: &[u8]) -> u64
     ensures { result ≡ siphash key.now message.now }
 {
-    let mut state = State::new(key);
-    for i in 0..message.len() / 8 {
-        state = state.compress(word(&message[8 * i..8 * i + 8]));
-    }
-    state.compress(last_word(message)).finalize()
+    let (words, rest) = message.as_chunks::<8>();
+    let state = compress_words(State::new(key), words);
+    state.compress(last_word(rest, message.len())).finalize()
 }
 
 /// SipHash-2-4 of the message under the key, as eight bytes, the least significant byte first.
