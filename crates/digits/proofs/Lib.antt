@@ -1,4 +1,5 @@
 pub mod Bits
+pub mod Every
 pub mod Ordering
 pub mod Packing
 pub mod Zeros
