@@ -107,13 +107,13 @@ Cut order s [] = Unit {0}
 Cut order s (e ∷ es) = ((order s e.key ≡ Greater → ⊥) → Compares order s Less es) × Cut order s es
 
 pub not_greater_less : {w : Ordering} → w ≡ Less → w ≡ Greater → ⊥
-not_greater_less p q = let z : ◌≡◌ {A = ℕ} 0 1 = cc in omega arith
+not_greater_less p q = cc
 
 pub not_greater_equal : {w : Ordering} → w ≡ Equal → w ≡ Greater → ⊥
-not_greater_equal p q = let z : ◌≡◌ {A = ℕ} 0 1 = cc in omega arith
+not_greater_equal p q = cc
 
 pub not_less_equal : {w : Ordering} → w ≡ Equal → w ≡ Less → ⊥
-not_less_equal p q = let z : ◌≡◌ {A = ℕ} 0 1 = cc in omega arith
+not_less_equal p q = cc
 
 greater_left : (w : Ordering) → (w ≡ Less → ⊥) → (w ≡ Equal → ⊥) → w ≡ Greater
 greater_left Less p q = absurd (p refl)
