@@ -33,7 +33,7 @@ refused_moves (Find s) refusal pairs = (tt, refl)
 refused_moves (SeekFrom s) refusal pairs = (tt, refl)
 refused_moves (SeekAfter s) refusal pairs = (tt, refl)
 
--- a book of no capacity that declines a call with 9
+-- a book of no capacity that declines a call
 pub unserved_means : {K I : Type 0} (order : K → K → Ordering) (family : I → K → Type 0) (pairs : List (Option K × ℕ)) (room : ℕ) (c : Call K) →
     room ≡ 0 → Meaning order family pairs room c (refused c NoSlots) pairs room
 unserved_means order family pairs room c e =

@@ -82,7 +82,7 @@ pub record AsThePlainBook {K : Type 0} (order : K → K → Ordering) (room : �
   pub answers : answer ≡ (plain_step order room es c).0
   pub leaves : left ≡ map known (plain_step order room es c).1
 
--- at capacity 0 a book may decline every call with 9
+-- at capacity 0 a book may decline every call: it has no slots
 pub record Unserved {K : Type 0} (room : ℕ) (c : Call K) (answer : Answer K) (before left : List (Option K × ℕ)) : Type 0 where
   pub roomless : room ≡ 0
   pub answers : answer ≡ refused c NoSlots
