@@ -1,8 +1,8 @@
 -- What an add, a take or a refused call answers, case by case, for any kind of book.
 use Rattle.std.proofs.Common.{◌≡◌, ℕ, ◌<◌, ltb, List, [], ◌∷◌, map, IfSome, Some, None, Ok, Err, Option, Result, Ordering, refl, inr}
 use Rattle.std.proofs.lemmas.Bool.{cond_both, ltb-true}
-use Rattle.std.proofs.ByRecursion.{all_has_itself}
-use Rattle.std.specs.List.{ContainsAt as Has, AllByRecursion}
+use Rattle.std.proofs.lemmas.List.Elements.{recursion_from_All, All-contains_itself}
+use Rattle.std.specs.List.{AllByRecursion, Contains}
 use Rattle.books.specs.declared.entries.Entry.{Entry}
 use Rattle.books.specs.Calls.{Call, Add, Take, Find, SeekFrom, SeekAfter, Found, Sought, refused}
 use Rattle.books.specs.Plain.{add_answer, take_answer, where_ok}
@@ -33,18 +33,18 @@ refused_moves (Find s) refusal pairs = (tt, refl)
 refused_moves (SeekFrom s) refusal pairs = (tt, refl)
 refused_moves (SeekAfter s) refusal pairs = (tt, refl)
 
--- a book of no capacity that declines a call with 9
+-- a book of no capacity that declines a call
 pub unserved_means : {K I : Type 0} (order : K → K → Ordering) (family : I → K → Type 0) (pairs : List (Option K × ℕ)) (room : ℕ) (c : Call K) →
     room ≡ 0 → Meaning order family pairs room c (refused c NoSlots) pairs room
 unserved_means order family pairs room c e =
     record { in_good_order = λ i es shown good kin. inr (record { roomless = e; answers = refl; leaves = refl }); in_any_order = refused_moves c NoSlots pairs; room_stays = refl }
 
 -- an answer that has what each pair held has, is of a pair held
-pub found_held : {K : Type 0} (found : Option ℕ) (pairs : List (Option K × ℕ)) → IfSome found (λ ticket. (key : Option K) × Has pairs (key, ticket)) → Finds {K = K} (Found (Ok found)) pairs
+pub found_held : {K : Type 0} (found : Option ℕ) (pairs : List (Option K × ℕ)) → IfSome found (λ ticket. (key : Option K) × Contains pairs (key, ticket)) → Finds {K = K} (Found (Ok found)) pairs
 found_held None pairs p = tt
 found_held (Some ticket) pairs p = p
 
-pub sought_held : {K : Type 0} (found : Option (Entry K)) (pairs : List (Option K × ℕ)) → IfSome found (λ e. Has pairs (known e)) → Seeks (Sought (Ok found)) pairs
+pub sought_held : {K : Type 0} (found : Option (Entry K)) (pairs : List (Option K × ℕ)) → IfSome found (λ e. Contains pairs (known e)) → Seeks (Sought (Ok found)) pairs
 sought_held None pairs p = tt
 sought_held (Some e) pairs p = p
 
@@ -53,5 +53,5 @@ all_unmap P f [] p = tt
 all_unmap P f (x ∷ xs) p = (p.0, all_unmap P f xs p.1)
 
 -- each pair of a list is held
-pub all_held : {K : Type 0} (es : List (Entry K)) → AllByRecursion (λ e. Has (map known es) (known e)) es
-all_held es = all_unmap (Has (map known es)) known es (all_has_itself (map known es))
+pub all_held : {K : Type 0} (es : List (Entry K)) → AllByRecursion (λ e. Contains (map known es) (known e)) es
+all_held es = all_unmap (Contains (map known es)) known es (recursion_from_All (Contains (map known es)) (map known es) (All-contains_itself (map known es)))

@@ -1,15 +1,15 @@
 -- The plain calls on a list in two parts: what stands before the key asked for is passed over, what stands past it is not looked at.
 use Rattle.std.proofs.Common.{◌≡◌, ℕ, suc, Bool, true, false, cond, List, [], ◌∷◌, ◌++◌, map, length, Some, None, Option, Ordering, Less, Equal, Greater, sym, refl, ap, ◌∙◌, subst, append_assoc, arith, length-append}
 use mathlib.Core.List.{map-append}
-use Rattle.std.specs.List.{ContainsAt as Has, AllByRecursion}
-use Rattle.std.proofs.ByRecursion.{All-append, has_append_right}
+use Rattle.std.specs.List.{AllByRecursion, Contains}
+use Rattle.std.proofs.lemmas.List.Elements.{recursion_from_All, Contains-append_right}
 use Rattle.std.specs.Option.{option_or}
 use Rattle.std.specs.Ordering.{ordering_reverse}
 use Rattle.books.specs.declared.entries.Entry.{Entry}
 use Rattle.books.specs.Plain.{by_order, entry, look, put, take_out, passes, first}
 use Rattle.books.specs.Meaning.{known, Before, Ascending, GoodOrder, OneMore}
 
--- what holds of each element of two lists in a row, holds of each element of either
+-- what holds of each element of two lists in a row holds of each element of either, and the other way about
 module _ {X : Type 0} (P : X → Type 0) where
   pub all_left : (xs ys : List X) → AllByRecursion P (xs ++ ys) → AllByRecursion P xs
   all_left [] ys p = tt
@@ -18,6 +18,10 @@ module _ {X : Type 0} (P : X → Type 0) where
   pub all_right : (xs ys : List X) → AllByRecursion P (xs ++ ys) → AllByRecursion P ys
   all_right [] ys p = p
   all_right (x ∷ xs) ys p = all_right xs ys p.1
+
+  pub all_append : (xs ys : List X) → AllByRecursion P xs → AllByRecursion P ys → AllByRecursion P (xs ++ ys)
+  all_append [] ys p q = q
+  all_append (x ∷ xs) ys p q = (p.0, all_append xs ys p.1 q)
 
 -- one x more, at a place, in the left part, in the right part, past a head, and each element shown by f
 module _ {X : Type 0} (x : X) where
@@ -59,18 +63,18 @@ module _ {X : Type 0} (x : X) (fewer more : List X) (m : OneMore x fewer more) w
       let b = ap length m.with_it ∙ length-append m.front (x ∷ m.back) in
       omega arith
 
-  pub more_has : Has more x
-  more_has = subst (λ l. Has l x) (sym m.with_it) (has_append_right m.front (x ∷ m.back) x (0, omega arith, λ d. refl))
+  pub more_has : Contains more x
+  more_has = subst (λ l. Contains l x) (sym m.with_it) (Contains-append_right m.front (x ∷ m.back) x (0, omega arith, refl))
 
   pub all_with : (P : X → Type 0) → P x → AllByRecursion P fewer → AllByRecursion P more
   all_with P p q =
       let r = subst (AllByRecursion P) m.without q in
-      subst (AllByRecursion P) (sym m.with_it) (All-append P m.front (x ∷ m.back) (all_left P m.front m.back r) (p, all_right P m.front m.back r))
+      subst (AllByRecursion P) (sym m.with_it) (all_append P m.front (x ∷ m.back) (all_left P m.front m.back r) (p, all_right P m.front m.back r))
 
   pub all_without : (P : X → Type 0) → AllByRecursion P more → AllByRecursion P fewer
   all_without P q =
       let r = subst (AllByRecursion P) m.with_it q in
-      subst (AllByRecursion P) (sym m.without) (All-append P m.front m.back (all_left P m.front (x ∷ m.back) r) (all_right P m.front (x ∷ m.back) r).1)
+      subst (AllByRecursion P) (sym m.without) (all_append P m.front m.back (all_left P m.front (x ∷ m.back) r) (all_right P m.front (x ∷ m.back) r).1)
 
 -- pairs that are shown alike are the same
 pub known_same : {K : Type 0} (xs ys : List (Entry K)) → map known xs ≡ map known ys → xs ≡ ys
@@ -103,13 +107,13 @@ Cut order s [] = Unit {0}
 Cut order s (e ∷ es) = ((order s e.key ≡ Greater → ⊥) → Compares order s Less es) × Cut order s es
 
 pub not_greater_less : {w : Ordering} → w ≡ Less → w ≡ Greater → ⊥
-not_greater_less p q = let z : ◌≡◌ {A = ℕ} 0 1 = cc in omega arith
+not_greater_less p q = cc
 
 pub not_greater_equal : {w : Ordering} → w ≡ Equal → w ≡ Greater → ⊥
-not_greater_equal p q = let z : ◌≡◌ {A = ℕ} 0 1 = cc in omega arith
+not_greater_equal p q = cc
 
 pub not_less_equal : {w : Ordering} → w ≡ Equal → w ≡ Less → ⊥
-not_less_equal p q = let z : ◌≡◌ {A = ℕ} 0 1 = cc in omega arith
+not_less_equal p q = cc
 
 greater_left : (w : Ordering) → (w ≡ Less → ⊥) → (w ≡ Equal → ⊥) → w ≡ Greater
 greater_left Less p q = absurd (p refl)
@@ -225,4 +229,4 @@ module _ {K : Type 0} (order : K → K → Ordering) (P : K → Type 0) (law : F
 -- pairs in good order are cut by each key of their family
 pub good_cut : {K I : Type 0} (order : K → K → Ordering) (family : I → K → Type 0) (i : I) → FamilyLaws order (family i) →
     (s : K) (es : List (Entry K)) → family i s → GoodOrder order family i es → Cut order s es
-good_cut order family i law s es ps g = ascending_cut order (family i) law s es ps g.related g.ascending
+good_cut order family i law s es ps g = ascending_cut order (family i) law s es ps (recursion_from_All (λ e. family i e.key) es g.related) g.ascending

@@ -2,7 +2,7 @@ pub mod Answering
 pub mod Cuts
 pub mod Usable
 pub mod Halving
-pub mod Shifts
+pub mod Slots
 pub mod Places
 pub mod RowMeaning
 pub mod Relabelling

@@ -1,5 +1,5 @@
 -- The plain calls see a key only by how it compares: with their keys shown by g they answer and leave the same, shown by g.
-use Rattle.std.proofs.Common.{◌≡◌, ℕ, Bool, true, false, cond, List, [], ◌∷◌, map, length, Some, Ok, Ordering, Less, Equal, Greater, sym, refl, ap, ◌∙◌}
+use Rattle.std.proofs.Common.{◌≡◌, ℕ, suc, Bool, true, false, cond, List, [], ◌∷◌, map, length, Some, Ok, Ordering, Less, Equal, Greater, sym, refl, ap, ◌∙◌, arith}
 use Rattle.std.proofs.lemmas.List.{length-map}
 use Rattle.books.specs.declared.entries.Entry.{Entry}
 use Rattle.books.specs.Calls.{Add, Take, Find, SeekFrom, SeekAfter, Added, Taken, Found, Sought}
@@ -8,15 +8,21 @@ use Rattle.books.specs.Relabelling.{relabelled, relabelled_found, KeepsOrder, St
 use Rattle.books.proofs.Answering.{where_ok_shown}
 
 module _ {K L : Type 0} (g : K → L) (order : K → K → Ordering) (order' : L → L → Ordering) (s : K) where
+  here : (e : Entry K) (es : List (Entry K)) → KeepsOrder g order order' s (e ∷ es) → order' (g s) (g e.key) ≡ order s e.key
+  here e es keeps = keeps 0 e (omega arith)
+
+  beyond : (e : Entry K) (es : List (Entry K)) → KeepsOrder g order order' s (e ∷ es) → KeepsOrder g order order' s es
+  beyond e es keeps k d within = keeps (suc k) d (omega arith)
+
   look_commutes : (es : List (Entry K)) → KeepsOrder g order order' s es → look order' (map (relabelled g) es) (g s) ≡ look order es s
   look_commutes [] keeps = refl
-  look_commutes (e ∷ es) keeps = let here = keeps.0 in let later = look_commutes es keeps.1 in cc
+  look_commutes (e ∷ es) keeps = let same = here e es keeps in let later = look_commutes es (beyond e es keeps) in cc
 
   put_commutes : (v : ℕ) (es : List (Entry K)) → KeepsOrder g order order' s es → put order' (map (relabelled g) es) (g s) v ≡ map (relabelled g) (put order es s v)
   put_commutes v [] keeps = refl
   put_commutes v (e ∷ es) keeps =
-      ap (λ w. by_order w (entry (g s) v ∷ map (relabelled g) (e ∷ es)) (map (relabelled g) (e ∷ es)) (relabelled g e ∷ put order' (map (relabelled g) es) (g s) v)) keeps.0
-      ∙ by (order s e.key) (put_commutes v es keeps.1)
+      ap (λ w. by_order w (entry (g s) v ∷ map (relabelled g) (e ∷ es)) (map (relabelled g) (e ∷ es)) (relabelled g e ∷ put order' (map (relabelled g) es) (g s) v)) (here e es keeps)
+      ∙ by (order s e.key) (put_commutes v es (beyond e es keeps))
     where
       by : (w : Ordering) → put order' (map (relabelled g) es) (g s) v ≡ map (relabelled g) (put order es s v) →
           by_order w (entry (g s) v ∷ map (relabelled g) (e ∷ es)) (map (relabelled g) (e ∷ es)) (relabelled g e ∷ put order' (map (relabelled g) es) (g s) v) ≡ map (relabelled g) (by_order w (entry s v ∷ (e ∷ es)) (e ∷ es) (e ∷ put order es s v))
@@ -27,8 +33,8 @@ module _ {K L : Type 0} (g : K → L) (order : K → K → Ordering) (order' : L
   out_commutes : (es : List (Entry K)) → KeepsOrder g order order' s es → take_out order' (map (relabelled g) es) (g s) ≡ map (relabelled g) (take_out order es s)
   out_commutes [] keeps = refl
   out_commutes (e ∷ es) keeps =
-      ap (λ w. by_order w (relabelled g e ∷ take_out order' (map (relabelled g) es) (g s)) (map (relabelled g) es) (relabelled g e ∷ take_out order' (map (relabelled g) es) (g s))) keeps.0
-      ∙ by (order s e.key) (ap (λ l. relabelled g e ∷ l) (out_commutes es keeps.1))
+      ap (λ w. by_order w (relabelled g e ∷ take_out order' (map (relabelled g) es) (g s)) (map (relabelled g) es) (relabelled g e ∷ take_out order' (map (relabelled g) es) (g s))) (here e es keeps)
+      ∙ by (order s e.key) (ap (λ l. relabelled g e ∷ l) (out_commutes es (beyond e es keeps)))
     where
       by : (w : Ordering) → relabelled g e ∷ take_out order' (map (relabelled g) es) (g s) ≡ map (relabelled g) (e ∷ take_out order es s) →
           by_order w (relabelled g e ∷ take_out order' (map (relabelled g) es) (g s)) (map (relabelled g) es) (relabelled g e ∷ take_out order' (map (relabelled g) es) (g s)) ≡ map (relabelled g) (by_order w (e ∷ take_out order es s) es (e ∷ take_out order es s))
@@ -39,8 +45,8 @@ module _ {K L : Type 0} (g : K → L) (order : K → K → Ordering) (order' : L
   first_commutes : (after : Bool) (es : List (Entry K)) → KeepsOrder g order order' s es → first after order' (map (relabelled g) es) (g s) ≡ relabelled_found g (first after order es s)
   first_commutes after [] keeps = refl
   first_commutes after (e ∷ es) keeps =
-      ap (λ w. cond (passes after w) (first after order' (map (relabelled g) es) (g s)) (Some (relabelled g e))) keeps.0
-      ∙ by (passes after (order s e.key)) (first_commutes after es keeps.1)
+      ap (λ w. cond (passes after w) (first after order' (map (relabelled g) es) (g s)) (Some (relabelled g e))) (here e es keeps)
+      ∙ by (passes after (order s e.key)) (first_commutes after es (beyond e es keeps))
     where
       by : (t : Bool) → first after order' (map (relabelled g) es) (g s) ≡ relabelled_found g (first after order es s) →
           cond t (first after order' (map (relabelled g) es) (g s)) (Some (relabelled g e)) ≡ relabelled_found g (cond t (first after order es s) (Some e))

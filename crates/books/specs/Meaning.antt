@@ -2,7 +2,7 @@
 use Rattle.std.specs.Prelude.{◌≡◌, ℕ, ◌^◌, ◌<◌, cond, ◌⊎◌, List, [], ◌∷◌, ◌++◌, map, Some, None, Ok, Err, Option, nat_le}
 use Rattle.std.specs.declared.cmp.Ordering.TheVariants.{Less}
 use Rattle.std.specs.declared.cmp.Ordering.{Ordering}
-use Rattle.std.specs.List.{ContainsAt as Has, AllByRecursion}
+use Rattle.std.specs.List.{All, Contains}
 use Rattle.keys.specs.declared.orders.OrderedKey.{Ghosts as KeyGhosts}
 use Rattle.books.specs.declared.entries.Entry.{Entry}
 use Rattle.books.specs.Calls.{Call, Add, Take, Find, SeekFrom, SeekAfter, Answer, Added, Taken, Found, Sought, call_key, refused}
@@ -25,7 +25,7 @@ Ascending order (e ∷ es) = Before order e.key es × Ascending order es
 
 -- good order: the keys ascend, and all lie in one family
 pub record GoodOrder {K I : Type 0} (order : K → K → Ordering) (family : I → K → Type 0) (i : I) (es : List (Entry K)) : Type 0 where
-  pub related : AllByRecursion (λ e. family i e.key) es
+  pub related : All (λ e. family i e.key) es
   pub ascending : Ascending order es
 
 -- the list `more` is `fewer` with one x more, somewhere
@@ -53,7 +53,7 @@ Takes (Sought r) before left = ⊥
 
 -- a find answers the ticket of a pair held, or none, or refuses
 abbrev pub Finds : {K : Type 0} → Answer K → List (Option K × ℕ) → Type 0
-Finds {K} (Found (Ok (Some ticket))) pairs = (key : Option K) × Has pairs (key, ticket)
+Finds {K} (Found (Ok (Some ticket))) pairs = (key : Option K) × Contains pairs (key, ticket)
 Finds (Found (Ok None)) pairs = Unit {0}
 Finds (Found (Err refusal)) pairs = Unit {0}
 Finds (Added r) pairs = ⊥
@@ -62,7 +62,7 @@ Finds (Sought r) pairs = ⊥
 
 -- a seek answers a pair held, or none, or refuses
 abbrev pub Seeks : {K : Type 0} → Answer K → List (Option K × ℕ) → Type 0
-Seeks (Sought (Ok (Some e))) pairs = Has pairs (known e)
+Seeks (Sought (Ok (Some e))) pairs = Contains pairs (known e)
 Seeks (Sought (Ok None)) pairs = Unit {0}
 Seeks (Sought (Err refusal)) pairs = Unit {0}
 Seeks (Added r) pairs = ⊥
@@ -82,7 +82,7 @@ pub record AsThePlainBook {K : Type 0} (order : K → K → Ordering) (room : �
   pub answers : answer ≡ (plain_step order room es c).0
   pub leaves : left ≡ map known (plain_step order room es c).1
 
--- at capacity 0 a book may decline every call with 9
+-- at capacity 0 a book may decline every call: it has no slots
 pub record Unserved {K : Type 0} (room : ℕ) (c : Call K) (answer : Answer K) (before left : List (Option K × ℕ)) : Type 0 where
   pub roomless : room ≡ 0
   pub answers : answer ≡ refused c NoSlots

@@ -44,11 +44,11 @@ abbrev pub first : {K : Type 0} → Bool → (K → K → Ordering) → List (En
 first after order [] s = None
 first after order (e ∷ es) s = cond (passes after (order s e.key)) (first after order es s) (Some e)
 
--- what an add answers. 10: is the key absent? 11: are the pairs fewer than the capacity?
+-- what an add answers. First: is the key absent? Then: are the pairs fewer than the capacity?
 abbrev pub add_answer : Option ℕ → ℕ → ℕ → Result (Unit {0}) Refusal
 add_answer found count room = asked (not (is_some found)) KeyHeld (asked (nat_lt count room) BookFull (Ok tt))
 
--- what a take answers. 12: is the key held?
+-- what a take answers: is the key held?
 abbrev pub take_answer : Option ℕ → Result ℕ Refusal
 take_answer None = Err KeyNotHeld
 take_answer (Some ticket) = Ok ticket

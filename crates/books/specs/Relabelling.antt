@@ -1,7 +1,7 @@
 -- Pairs, calls and answers with their keys shown by another key: what counts of a key is how it compares.
 use Rattle.std.specs.Prelude.{◌≡◌, ℕ, List, map, Some, None, Ok, Err, Option}
 use Rattle.std.specs.declared.cmp.Ordering.{Ordering}
-use Rattle.std.specs.List.{AllByRecursion}
+use Rattle.std.specs.List.{All}
 use Rattle.books.specs.declared.entries.Entry.{Entry}
 use Rattle.books.specs.Calls.{Call, Add, Take, Find, SeekFrom, SeekAfter, Answer, Added, Taken, Found, Sought, call_key}
 use Rattle.books.specs.Plain.{entry, plain_step}
@@ -29,7 +29,7 @@ relabelled_answer g (Sought (Err refusal)) = Sought (Err refusal)
 
 -- s compares with each key as g shows both
 abbrev pub KeepsOrder : {K L : Type 0} → (K → L) → (K → K → Ordering) → (L → L → Ordering) → K → List (Entry K) → Type 0
-KeepsOrder g order order' s es = AllByRecursion (λ e. order' (g s) (g e.key) ≡ order s e.key) es
+KeepsOrder g order order' s es = All (λ e. order' (g s) (g e.key) ≡ order s e.key) es
 
 -- a step of the plain book, its keys shown by g: the same step
 pub record Commutes {K L : Type 0} (g : K → L) (order : K → K → Ordering) (order' : L → L → Ordering) (room : ℕ) (es : List (Entry K)) (c : Call K) : Type 0 where
