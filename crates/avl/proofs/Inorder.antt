@@ -6,7 +6,8 @@ use Rattle.std.specs.List.{AllByRecursion}
 use Rattle.books.specs.declared.entries.Entry.{Entry}
 use Rattle.books.specs.Plain.{by_order, entry, look, put, take_out, first}
 use Rattle.books.specs.Meaning.{OneMore}
-use Rattle.books.proofs.Cuts.{all_left, all_right, more_here, more_left, more_right, more_cons, by_all, Compares, Cut, not_greater_less, not_less_equal, look_skip, look_stop, put_skip, put_stop, out_skip, out_stop, first_skip, first_append, Parted, parted}
+use Rattle.digits.proofs.Every.{all_left, all_right}
+use Rattle.books.proofs.Cuts.{more_here, more_left, more_right, more_cons, by_all, Compares, Cut, not_greater_less, not_less_equal, look_skip, look_stop, put_skip, put_stop, out_skip, out_stop, first_skip, first_append, Parted, parted}
 use Rattle.avl.specs.Avl.{Avl, tip, fork, height, size, inorder, entries, slots, turn_right, turn_left, ready_left, ready_right, balance, insert, least_slot, least_key, least_ticket, without_least, joined, spare, remove, freed, find, or_else, seek}
 use Rattle.avl.proofs.Balance.{balance_all}
 

@@ -1,12 +1,12 @@
 -- What the calls of a tree mean: in good order they are the plain book's, and in any order they move one pair or none.
 use Rattle.std.proofs.Common.{◌≡◌, ℕ, Bool, true, false, eqb, List, map, Some, Ok, Err, Option, Result, Ordering, sym, refl, ap, subst, inl}
 use Rattle.std.proofs.lemmas.Bool.{cond_both, eqb-true}
-use Rattle.std.proofs.ByRecursion.{All-weaker}
-use Rattle.std.specs.List.{ContainsAt as Has}
+use Rattle.std.specs.List.{Contains}
 use Rattle.books.specs.declared.entries.Entry.{Entry}
 use Rattle.books.specs.Calls.{Call, Add, Take, Find, SeekFrom, SeekAfter, Added, Taken, Found, Sought, call_key, refused}
 use Rattle.books.specs.Plain.{entry, put, take_out, add_answer, take_answer, where_ok}
 use Rattle.books.specs.Meaning.{known, Adds, Takes, Seeks, Moves, AsThePlainBook, Meaning}
+use Rattle.digits.proofs.Every.{all_weaker}
 use Rattle.books.proofs.Cuts.{more_map, known_same, Cut, FamilyLaws, good_cut}
 use Rattle.books.proofs.Answering.{add_all, take_all, unserved_means, found_held, sought_held, all_held}
 use Rattle.avl.specs.Avl.{entries, size, find, seek, path, remove}
@@ -47,7 +47,7 @@ module _ {K : Type 0} (order : K → K → Ordering) (m : TreeModel K) where
   served_plain (SeekAfter s) cut = record { answers = ap (λ o. Sought (Ok o)) (seek_plain order s true m.tree cut); leaves = refl }
 
   seek_held : (after : Bool) (s : K) → Seeks (Sought (Ok (seek after order m.tree s))) (pairs m)
-  seek_held after s = sought_held (seek after order m.tree s) (pairs m) (seek_all order s after (λ e. Has (pairs m) (known e)) m.tree (all_held (entries m.tree)))
+  seek_held after s = sought_held (seek after order m.tree s) (pairs m) (seek_all order s after (λ e. Contains (pairs m) (known e)) m.tree (all_held (entries m.tree)))
 
   served_moves : (c : Call K) → Moves c (served_step order m c).0 (pairs m) (pairs (served_step order m c).1)
   served_moves (Add s ticket) =
@@ -62,8 +62,8 @@ module _ {K : Type 0} (order : K → K → Ordering) (m : TreeModel K) where
       (Some r.0, more_map (entry r.0 ticket) known (entries (remove order m.tree s)) (entries m.tree) r.1))
       refl
   served_moves (Find s) = (
-    found_held (find order m.tree s) (pairs m) (find_all order s (λ ticket. (key : Option K) × Has (pairs m) (key, ticket)) m.tree
-        (All-weaker (λ e. Has (pairs m) (known e)) (λ e. (key : Option K) × Has (pairs m) (key, e.ticket)) (λ e h. (Some e.key, h)) (entries m.tree) (all_held (entries m.tree)))),
+    found_held (find order m.tree s) (pairs m) (find_all order s (λ ticket. (key : Option K) × Contains (pairs m) (key, ticket)) m.tree
+        (all_weaker (λ e. Contains (pairs m) (known e)) (λ e. (key : Option K) × Contains (pairs m) (key, e.ticket)) (λ e h. (Some e.key, h)) (entries m.tree) (all_held (entries m.tree)))),
     refl,
   )
   served_moves (SeekFrom s) = (seek_held false s, refl)

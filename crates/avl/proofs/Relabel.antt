@@ -1,10 +1,11 @@
 -- A key counts only by how it compares: each call commutes with a relabelling that keeps what the order says of the call's key.
 use Rattle.std.proofs.Common.{◌≡◌, ℕ, suc, Bool, true, false, cond, ltb, ◌∷◌, Some, None, Option, Ordering, Less, Equal, Greater, refl, ap, ◌∙◌, arith}
 use Rattle.std.proofs.lemmas.Bool.{cond_both}
+use Rattle.std.proofs.lemmas.List.Elements.{All-from_recursion, recursion_from_All}
 use Rattle.books.specs.declared.entries.Entry.{Entry}
 use Rattle.books.specs.Plain.{by_order, entry}
 use Rattle.books.specs.Relabelling.{relabelled, relabelled_found, KeepsOrder}
-use Rattle.books.proofs.Cuts.{all_left, all_right}
+use Rattle.digits.proofs.Every.{all_left, all_right}
 use Rattle.avl.specs.Avl.{Avl, tip, fork, height, size, entries, turn_right, turn_left, ready_left, ready_right, balance, insert, least, least_key, least_ticket, without_least, joined, spare, remove, freed, find, or_else, seek, path, relabel}
 use Rattle.avl.proofs.Balance.{balance_all, balance_is_right, balance_is_left, balance_is_fork}
 
@@ -94,8 +95,9 @@ module _ {K L : Type 0} (g : K → L) (order : K → K → Ordering) (order' : L
       (order' (g s) (g k) ≡ order s k) × KeepsOrder g order order' s (entries a) × KeepsOrder g order order' s (entries b)
   keeps_sides i k v a b p =
       let same : Entry K → Type 0 = λ e. order' (g s) (g e.key) ≡ order s e.key in
-      let r = all_right same (entries a) (entry k v ∷ entries b) p in
-      (r.0, all_left same (entries a) (entry k v ∷ entries b) p, r.1)
+      let each = recursion_from_All same (entries (fork i k v a b)) p in
+      let r = all_right same (entries a) (entry k v ∷ entries b) each in
+      (r.0, All-from_recursion same (entries a) (all_left same (entries a) (entry k v ∷ entries b) each), All-from_recursion same (entries b) r.1)
 
   pub relabel_insert : (v n : ℕ) (t : Avl K) → KeepsOrder g order order' s (entries t) → insert order' (relabel g t) (g s) v n ≡ relabel g (insert order t s v n)
   relabel_insert v n tip kept = refl

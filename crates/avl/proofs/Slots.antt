@@ -1,11 +1,11 @@
 -- The slots of a tree: which come and go, that they stay distinct, and that n distinct slots below n are all of them.
 use Rattle.std.proofs.Common.{◌≡◌, ℕ, zero, suc, ◌<◌, ◌≤◌, ◌⊎◌, List, [], ◌∷◌, ◌++◌, length, Some, None, Ordering, Less, Equal, Greater, sym, refl, subst, inl, inr, arith}
 use Rattle.std.proofs.lemmas.Bool.{cases_eq}
-use Rattle.std.proofs.ByRecursion.{All-append, All-weaker}
 use Rattle.std.specs.List.{AllByRecursion}
 use Rattle.books.specs.Plain.{by_order}
 use Rattle.books.specs.Meaning.{OneMore}
-use Rattle.books.proofs.Cuts.{all_left, all_right, more_here, more_cons, more_length, all_without}
+use Rattle.digits.proofs.Every.{all_left, all_right, all_append, all_weaker}
+use Rattle.books.proofs.Cuts.{more_here, more_cons, more_length, all_without}
 use Rattle.avl.specs.Avl.{Avl, tip, fork, size, slots, insert, spare, remove, freed, find}
 use Rattle.avl.specs.Model.{Apart, Distinct}
 use Rattle.avl.proofs.Inorder.{size_slots, never, insert_one_more, remove_slots}
@@ -14,7 +14,7 @@ use Rattle.avl.proofs.Inorder.{size_slots, never, insert_one_more, remove_slots}
 distinct_in : (j : ℕ) (xs ys : List ℕ) → Apart j (xs ++ ys) → Distinct (xs ++ ys) → Distinct (xs ++ (j ∷ ys))
 distinct_in j [] ys p d = (p, d)
 distinct_in j (i ∷ xs) ys p d = (
-  All-append (λ k. i ≡ k → ⊥) xs (j ∷ ys) (all_left (λ k. i ≡ k → ⊥) xs ys d.0) (λ e. p.0 (sym e), all_right (λ k. i ≡ k → ⊥) xs ys d.0),
+  all_append (λ k. i ≡ k → ⊥) xs (j ∷ ys) (all_left (λ k. i ≡ k → ⊥) xs ys d.0) (λ e. p.0 (sym e), all_right (λ k. i ≡ k → ⊥) xs ys d.0),
   distinct_in j xs ys p.1 d.1,
 )
 
@@ -23,7 +23,7 @@ distinct_out j [] ys d = d
 distinct_out j (i ∷ xs) ys d =
     let r = distinct_out j xs ys d.1 in
     let q = all_right (λ k. i ≡ k → ⊥) xs (j ∷ ys) d.0 in
-    ((λ e. q.0 (sym e), r.0), (All-append (λ k. i ≡ k → ⊥) xs ys (all_left (λ k. i ≡ k → ⊥) xs (j ∷ ys) d.0) q.1, r.1))
+    ((λ e. q.0 (sym e), r.0), (all_append (λ k. i ≡ k → ⊥) xs ys (all_left (λ k. i ≡ k → ⊥) xs (j ∷ ys) d.0) q.1, r.1))
 
 pub distinct_more : (j : ℕ) (fewer more : List ℕ) → OneMore j fewer more → Apart j fewer → Distinct fewer → Distinct more
 distinct_more j fewer more m p d = subst Distinct (sym m.with_it) (distinct_in j m.front m.back (subst (Apart j) m.without p) (subst Distinct m.without d))
@@ -48,7 +48,7 @@ split (i ∷ xs) ys d =
 pub crossed : (xs ys : List ℕ) → AllByRecursion (λ j. Apart j ys) xs → AllByRecursion (λ j. Apart j xs) ys
 crossed xs [] p = tt
 crossed xs (y ∷ ys) p =
-    (All-weaker (λ j. Apart j (y ∷ ys)) (λ j. y ≡ j → ⊥) (λ j q e. q.0 (sym e)) xs p, crossed xs ys (All-weaker (λ j. Apart j (y ∷ ys)) (λ j. Apart j ys) (λ j q. q.1) xs p))
+    (all_weaker (λ j. Apart j (y ∷ ys)) (λ j. y ≡ j → ⊥) (λ j q e. q.0 (sym e)) xs p, crossed xs ys (all_weaker (λ j. Apart j (y ∷ ys)) (λ j. Apart j ys) (λ j q. q.1) xs p))
 
 -- a node's slot and the slots of its sides
 pub record Sides {K : Type 0} (i : ℕ) (a b : Avl K) : Type 0 where

@@ -1,12 +1,12 @@
 -- Every call keeps a tree sound, and in a sound tree each slot is in one place.
 use Rattle.std.proofs.Common.{◌≡◌, ℕ, suc, ◌+◌, ◌<◌, ◌≤◌, true, false, eqb, ◌⊎◌, List, [], ◌∷◌, ◌++◌, length, Some, None, Ordering, sym, refl, subst, inl, inr, arith, length-append}
 use Rattle.std.proofs.lemmas.Bool.{cases_lt, cond_both}
-use Rattle.std.proofs.ByRecursion.{All-append, all-has, All-weaker}
-use Rattle.std.specs.List.{ContainsAt as Has, AllByRecursion}
+use Rattle.std.specs.List.{AllByRecursion, Contains}
 use Rattle.books.specs.Calls.{Call, Add, Take, Find, SeekFrom, SeekAfter, refused}
 use Rattle.books.specs.Plain.{where_ok}
 use Rattle.books.specs.Meaning.{OneMore}
-use Rattle.books.proofs.Cuts.{all_left, all_right, more_here, more_left, more_has, all_with, all_without}
+use Rattle.digits.proofs.Every.{all_left, all_right, all_append, all_weaker, all_contains}
+use Rattle.books.proofs.Cuts.{more_here, more_left, more_has, all_with, all_without}
 use Rattle.books.proofs.Answering.{add_all, take_all}
 use Rattle.avl.specs.Avl.{Avl, size, slots, insert, remove, freed, find, path}
 use Rattle.avl.specs.Model.{TreeModel, next_slot, free_after, fresh_after, freed_first, counted, grown, shrunk, served_step, tree_step, new_tree, Apart, Distinct, Sound}
@@ -27,14 +27,14 @@ moved j fresh rest from into m n l =
     let r = distinct_less j rest from m l.distinct in
     record {
       distinct = distinct_more j rest into n r.0 r.1;
-      below = all_with j rest into n (λ i. i < fresh) (all-has (λ i. i < fresh) from j l.below (more_has j rest from m)) (all_without j rest from m (λ i. i < fresh) l.below);
+      below = all_with j rest into n (λ i. i < fresh) (all_contains (λ i. i < fresh) from j l.below (more_has j rest from m)) (all_without j rest from m (λ i. i < fresh) l.below);
     }
 
 -- the lowest slot never used comes in
 risen : (fresh : ℕ) (l more : List ℕ) → OneMore fresh l more → LinedUp fresh l → LinedUp (suc fresh) more
 risen fresh l more m p = record {
-  distinct = distinct_more fresh l more m (All-weaker (λ i. i < fresh) (λ i. fresh ≡ i → ⊥) (λ i h e. omega arith) l p.below) p.distinct;
-  below = all_with fresh l more m (λ i. i < suc fresh) (omega arith) (All-weaker (λ i. i < fresh) (λ i. i < suc fresh) (λ i h. omega arith) l p.below);
+  distinct = distinct_more fresh l more m (all_weaker (λ i. i < fresh) (λ i. fresh ≡ i → ⊥) (λ i h e. omega arith) l p.below) p.distinct;
+  below = all_with fresh l more m (λ i. i < suc fresh) (omega arith) (all_weaker (λ i. i < fresh) (λ i. i < suc fresh) (λ i h. omega arith) l p.below);
 }
 
 counted_sound : {K : Type 0} (n : ℕ) (m : TreeModel K) → Sound m → Sound (counted n m)
@@ -114,9 +114,9 @@ size_within m s = let u = s.all_used in let w = s.within in omega arith
 pub one_place : {K : Type 0} (m : TreeModel K) → Sound m → (j : ℕ) → OnePlace m j
 one_place m s j = record {
   some_place = by (held_or_apart j (slots m.tree)) (held_or_apart j m.free) (cases_lt j m.fresh);
-  not_held_and_free = λ held free. all-has (λ i. j ≡ i → ⊥) m.free j (all-has (λ i. Apart i m.free) (slots m.tree) j (split (slots m.tree) m.free s.distinct).left_right held) free refl;
-  held_was_used = λ held. all-has (λ i. i < m.fresh) (slots m.tree) j (all_left (λ i. i < m.fresh) (slots m.tree) m.free s.below) held;
-  free_was_used = λ free. all-has (λ i. i < m.fresh) m.free j (all_right (λ i. i < m.fresh) (slots m.tree) m.free s.below) free;
+  not_held_and_free = λ held free. all_contains (λ i. j ≡ i → ⊥) m.free j (all_contains (λ i. Apart i m.free) (slots m.tree) j (split (slots m.tree) m.free s.distinct).left_right held) free refl;
+  held_was_used = λ held. all_contains (λ i. i < m.fresh) (slots m.tree) j (all_left (λ i. i < m.fresh) (slots m.tree) m.free s.below) held;
+  free_was_used = λ free. all_contains (λ i. i < m.fresh) m.free j (all_right (λ i. i < m.fresh) (slots m.tree) m.free s.below) free;
 }
   where
     -- the slots in use and the free ones are as many as the slots below `fresh`
@@ -124,13 +124,13 @@ one_place m s j = record {
     count = let a = length-append (slots m.tree) m.free in let b = size_slots m.tree in let c = s.all_used in omega arith
 
     by : (((fewer : List ℕ) × OneMore j fewer (slots m.tree)) ⊎ Apart j (slots m.tree)) → (((fewer : List ℕ) × OneMore j fewer m.free) ⊎ Apart j m.free) → ((j < m.fresh) ⊎ (m.fresh ≤ j)) →
-        Has (slots m.tree) j ⊎ (Has m.free j ⊎ (m.fresh ≤ j))
+        Contains (slots m.tree) j ⊎ (Contains m.free j ⊎ (m.fresh ≤ j))
     by (inl h) free known = inl (more_has j h.0 (slots m.tree) h.1)
     by (inr p) (inl h) known = inr (inl (more_has j h.0 m.free h.1))
     by (inr p) (inr q) (inr le) = inr (inr le)
     by (inr p) (inr q) (inl lt) =
         absurd (none_apart (slots m.tree ++ m.free) s.distinct (subst (λ n. AllByRecursion (λ i. i < n) (slots m.tree ++ m.free)) (sym count) s.below) j
-        (let c = count in omega arith) (All-append (λ i. j ≡ i → ⊥) (slots m.tree) m.free p q))
+        (let c = count in omega arith) (all_append (λ i. j ≡ i → ⊥) (slots m.tree) m.free p q))
 
 pub stays_sound : (K : Type 0) → StaysSound K
 stays_sound K = record { at_first = new_sound; kept = model_kept; placed = one_place }

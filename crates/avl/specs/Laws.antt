@@ -1,7 +1,7 @@
 -- What is shown of the tree, over every kind of key and every order.
 use Rattle.std.specs.Prelude.{◌≡◌, ℕ, ◌<◌, ◌≤◌, ◌⊎◌}
 use Rattle.std.specs.declared.cmp.Ordering.{Ordering}
-use Rattle.std.specs.List.{ContainsAt as Has}
+use Rattle.std.specs.List.{Contains}
 use Rattle.books.specs.Calls.{Call, call_key}
 use Rattle.books.specs.Relabelling.{KeepsOrder, relabelled_call, relabelled_answer}
 use Rattle.avl.specs.Avl.{entries, slots}
@@ -9,10 +9,10 @@ use Rattle.avl.specs.Model.{TreeModel, tree_step, new_tree, Sound, relabelled_mo
 
 -- a slot holds a pair of the tree, or is free, or was never used, and only one of these
 pub record OnePlace {K : Type 0} (m : TreeModel K) (j : ℕ) : Type 0 where
-  pub some_place : Has (slots m.tree) j ⊎ (Has m.free j ⊎ (m.fresh ≤ j))
-  pub not_held_and_free : Has (slots m.tree) j → Has m.free j → ⊥
-  pub held_was_used : Has (slots m.tree) j → j < m.fresh
-  pub free_was_used : Has m.free j → j < m.fresh
+  pub some_place : Contains (slots m.tree) j ⊎ (Contains m.free j ⊎ (m.fresh ≤ j))
+  pub not_held_and_free : Contains (slots m.tree) j → Contains m.free j → ⊥
+  pub held_was_used : Contains (slots m.tree) j → j < m.fresh
+  pub free_was_used : Contains m.free j → j < m.fresh
 
 -- every add and take keeps a tree sound, its balance too, and in a sound tree each slot is in one place
 pub record StaysSound (K : Type 0) : Type 0 where

@@ -3,25 +3,12 @@ use Rattle.std.proofs.Common.{◌≡◌, ℕ, suc, Bool, true, false, cond, List
 use mathlib.Core.List.{map-append}
 use Rattle.std.specs.List.{AllByRecursion, Contains}
 use Rattle.std.proofs.lemmas.List.Elements.{recursion_from_All, Contains-append_right}
+use Rattle.digits.proofs.Every.{all_left, all_right, all_append}
 use Rattle.std.specs.Option.{option_or}
 use Rattle.std.specs.Ordering.{ordering_reverse}
 use Rattle.books.specs.declared.entries.Entry.{Entry}
 use Rattle.books.specs.Plain.{by_order, entry, look, put, take_out, passes, first}
 use Rattle.books.specs.Meaning.{known, Before, Ascending, GoodOrder, OneMore}
-
--- what holds of each element of two lists in a row holds of each element of either, and the other way about
-module _ {X : Type 0} (P : X → Type 0) where
-  pub all_left : (xs ys : List X) → AllByRecursion P (xs ++ ys) → AllByRecursion P xs
-  all_left [] ys p = tt
-  all_left (x ∷ xs) ys p = (p.0, all_left xs ys p.1)
-
-  pub all_right : (xs ys : List X) → AllByRecursion P (xs ++ ys) → AllByRecursion P ys
-  all_right [] ys p = p
-  all_right (x ∷ xs) ys p = all_right xs ys p.1
-
-  pub all_append : (xs ys : List X) → AllByRecursion P xs → AllByRecursion P ys → AllByRecursion P (xs ++ ys)
-  all_append [] ys p q = q
-  all_append (x ∷ xs) ys p q = (p.0, all_append xs ys p.1 q)
 
 -- one x more, at a place, in the left part, in the right part, past a head, and each element shown by f
 module _ {X : Type 0} (x : X) where

@@ -5,7 +5,7 @@ use lib.Arith.{digits_lt, digits_div, mod-mul}
 use Rattle.std.specs.List.{AllByRecursion}
 use Rattle.std.proofs.lemmas.List.{length-append, get_or_append_left, get_or-append-add, drop_at, drop-append-le, drop_all, length_push, length-drop, append_assoc, get_or_past, get_or-map, length-map, get_or-set_same}
 use Rattle.std.proofs.lemmas.Bool.{cases_lt}
-use Rattle.digits.proofs.Every.{every_drop, every_append, every_push, every_at}
+use Rattle.digits.proofs.Every.{all_drop, all_append, all_push, all_at}
 use Rattle.digits.specs.Positional.{digits, weighed, unpacked, packed, bits}
 
 -- the first n digits of a row; missing ones are 0
@@ -97,11 +97,11 @@ length_packed radix k (suc count) ds = ap suc (length_packed radix k count (drop
 
 pub packed_lt : (radix k count : ℕ) (ds : List ℕ) → 0 < radix → AllByRecursion (λ d. d < radix) ds → AllByRecursion (λ n. n < radix ^ k) (packed radix k count ds)
 packed_lt radix k zero ds r h = tt
-packed_lt radix k (suc count) ds r h = (weighed_lt radix k ds r h, packed_lt radix k count (drop k ds) r (every_drop (λ d. d < radix) k ds h))
+packed_lt radix k (suc count) ds r h = (weighed_lt radix k ds r h, packed_lt radix k count (drop k ds) r (all_drop (λ d. d < radix) k ds h))
 
 pub unpacked_lt : (radix k : ℕ) (ns : List ℕ) → 0 < radix → AllByRecursion (λ d. d < radix) (unpacked radix k ns)
 unpacked_lt radix k [] r = tt
-unpacked_lt radix k (n ∷ ns) r = every_append (λ d. d < radix) (digits radix k n) (unpacked radix k ns) (digits_lt_radix k) (unpacked_lt radix k ns r)
+unpacked_lt radix k (n ∷ ns) r = all_append (λ d. d < radix) (digits radix k n) (unpacked radix k ns) (digits_lt_radix k) (unpacked_lt radix k ns r)
   where
     digits_lt_radix : (j : ℕ) → AllByRecursion (λ d. d < radix) (digits radix j n)
     digits_lt_radix zero = tt
@@ -127,7 +127,7 @@ unpacked_packed radix k zero ds r h = rw (zero-mul k) refl
 unpacked_packed radix k (suc count) ds r h =
     let e : suc count * k ≡ k + count * k = suc-mul count k ∙ add_comm (count * k) k in
     ap (λ front. front ++ unpacked radix k (packed radix k count (drop k ds))) (digits_weighed radix k ds r h)
-    ∙ ap (λ back. filled k ds ++ back) (unpacked_packed radix k count (drop k ds) r (every_drop (λ d. d < radix) k ds h))
+    ∙ ap (λ back. filled k ds ++ back) (unpacked_packed radix k count (drop k ds) r (all_drop (λ d. d < radix) k ds h))
     ∙ sym (filled_add k (count * k) ds) ∙ ap (λ n. filled n ds) (sym e)
 
 -- packing what was unpacked gives the numbers, if each fits its digits
@@ -180,9 +180,9 @@ pub push_fits : (radix k count q j : ℕ) (ds : List ℕ) (d : ℕ) → 0 < radi
     → get_or (packed radix k count ds) q 0 + d * radix ^ (k - 1 - j) < radix ^ k
 push_fits radix k count q j ds d r j_fits q_fits long small d_small =
     let next = packed radix k count (ds ++ d ∷ []) in
-    let all = packed_lt radix k count (ds ++ d ∷ []) r (every_push (λ d. d < radix) ds d small d_small) in
+    let all = packed_lt radix k count (ds ++ d ∷ []) r (all_push (λ d. d < radix) ds d small d_small) in
     let within : q < length next = rw (length_packed radix k count (ds ++ d ∷ [])) q_fits in
-    let one : get_or next q 0 < radix ^ k = every_at (λ n. n < radix ^ k) next q 0 within all in
+    let one : get_or next q 0 < radix ^ k = all_at (λ n. n < radix ^ k) next q 0 within all in
     let within_before : q < length (packed radix k count ds) = rw (length_packed radix k count ds) q_fits in
     let put = get_or-set_same (packed radix k count ds) q (get_or (packed radix k count ds) q 0 + d * radix ^ (k - 1 - j)) 0 within_before in
     let same = ap (λ row. get_or row q 0) (packed_push radix k count q j ds d j_fits q_fits long) in

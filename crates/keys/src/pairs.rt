@@ -5,7 +5,7 @@ ghost use Rattle.keys.specs.Kinds.{write_answer};
 ghost use Rattle.keys.specs.Pairs.{pair_width, pair_decoded};
 ghost use Rattle.std.proofs.lemmas.List.{length-append, take_at, drop_at, take-append-drop};
 ghost use Rattle.keys.specs.PairKeys.{pair_parts, both_parts};
-ghost use Rattle.digits.proofs.Every.{every_append, every_take, every_drop};
+ghost use Rattle.digits.proofs.Every.{all_append, all_take, all_drop};
 ghost use Rattle.digits.proofs.Ordering.{row_order_append};
 
 use crate::{KeyKind, OrderedKey, Refusal, is_served};
@@ -74,7 +74,7 @@ impl<A: KeyKind, B: KeyKind> KeyKind for Pair<A, B> {
 
     ghost bytes = { λ v h s.
         let p = pair_parts A.KeyKind.width B.KeyKind.width s in
-        every_append (λ b. b < 256) (A.KeyKind.encode v.first) (B.KeyKind.encode v.second)
+        all_append (λ b. b < 256) (A.KeyKind.encode v.first) (B.KeyKind.encode v.second)
         (A.KeyKind.bytes v.first h.0 p.0)
         (B.KeyKind.bytes v.second h.1 p.1) };
 
@@ -99,8 +99,8 @@ impl<A: KeyKind, B: KeyKind> KeyKind for Pair<A, B> {
         let wa = A.KeyKind.width in
         let p = pair_parts wa B.KeyKind.width s in
         let q = both_parts (λ a b. record { first = a; second = b }) (A.KeyKind.decode (take wa key)) (B.KeyKind.decode (drop wa key)) v e in
-        let a = A.KeyKind.writes (take wa key) v.first (every_take (λ b. b < 256) wa key small) p.0 (q.2 ∙ ap Some (ap (λ t. t.first) q.4)) in
-        let b = B.KeyKind.writes (drop wa key) v.second (every_drop (λ b. b < 256) wa key small) p.1 (q.3 ∙ ap Some (ap (λ t. t.second) q.4)) in
+        let a = A.KeyKind.writes (take wa key) v.first (all_take (λ b. b < 256) wa key small) p.0 (q.2 ∙ ap Some (ap (λ t. t.first) q.4)) in
+        let b = B.KeyKind.writes (drop wa key) v.second (all_drop (λ b. b < 256) wa key small) p.1 (q.3 ∙ ap Some (ap (λ t. t.second) q.4)) in
         ((a.0, b.0), rw (a.1, b.1) (take-append-drop wa key)) };
 
     ghost gathers = { λ s.
