@@ -1,6 +1,6 @@
 ghost use Rattle.std.specs.Prelude.{◌≡◌, ℕ, List, length, Some, Option as TheOption};
 ghost use Rattle.digits.specs.Orders.{row_order};
-ghost use Rattle.keys.specs.Kinds.{Bytes, Served, write_answer, written, read_answer};
+ghost use Rattle.keys.specs.Kinds.{Bytes, Served, served, write_answer, written, read_answer};
 
 use crate::{OrderedKey, Refusal};
 
@@ -45,4 +45,11 @@ pub fn are_bytes(bytes: &[u8])
     ensures { Bytes bytes.now }
 {
     let _ = bytes.is_empty();
+}
+
+/// Is this a width that books and ciphers serve?
+pub fn is_served(width: u8) -> bool
+    ensures { result ≡ served width }
+{
+    (1..=32).contains(&width)
 }

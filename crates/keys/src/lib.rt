@@ -11,7 +11,7 @@ mod pairs;
 mod refusals;
 
 pub use counts::Count;
-pub use kinds::{KeyKind, are_bytes};
+pub use kinds::{KeyKind, are_bytes, is_served};
 pub use levels::Level;
 pub use names::Name;
 pub use orders::OrderedKey;

@@ -1,14 +1,14 @@
 ghost use Rattle.std.specs.Prelude.{◌≡◌, ◌<◌, ◌++◌, take, drop, Some};
 ghost use Rattle.std.proofs.Common.{sym, ◌∙◌, ap, rules, arith};
 ghost use Rattle.std.specs.Ordering.{ordering_then};
-ghost use Rattle.keys.specs.Kinds.{write_answer, served};
+ghost use Rattle.keys.specs.Kinds.{write_answer};
 ghost use Rattle.keys.specs.Pairs.{pair_width, pair_decoded};
 ghost use Rattle.std.proofs.lemmas.List.{length-append, take_at, drop_at, take-append-drop};
 ghost use Rattle.keys.specs.PairKeys.{pair_parts, both_parts};
 ghost use Rattle.std.proofs.ByRecursion.{All-append, All-take, All-drop};
 ghost use Rattle.digits.proofs.Ordering.{row_order_append};
 
-use crate::{KeyKind, OrderedKey, Refusal};
+use crate::{KeyKind, OrderedKey, Refusal, is_served};
 use std::cmp::Ordering;
 
 /// Two values as one: the first decides the order, and the second where the firsts are equal.
@@ -16,12 +16,6 @@ use std::cmp::Ordering;
 pub struct Pair<A, B> {
     pub first: A,
     pub second: B,
-}
-
-fn is_served(width: u8) -> bool
-    ensures { result ≡ served width }
-{
-    1 <= width && width <= 32
 }
 
 // Asks the two questions that every write and read begins with.

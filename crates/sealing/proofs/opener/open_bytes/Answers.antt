@@ -26,7 +26,7 @@ returns-in_err-bit g c =
     let whole : unmasked f [] (first_trits (length c.args.key.now) sealed) ≡ None = ap (λ n. unmasked f [] (first_trits n sealed)) (sym same) ∙ none.0 in
     let refusal = err_from_is_err_and c.from_residual.result c.from_residual.ensures.1 in
     record {
-      answer = ap numbered (refusal.1 ∙ ap (λ e. Err e) refusal.2) ∙ ap (λ n. Err n) none.1 ∙ sym (ap found_answer whole);
+      answer = refusal.1 ∙ ap (λ e. Err e) (refusal.2 ∙ none.1) ∙ sym (ap found_answer whole);
       left = rw whole tt;
       same_masks = c.loop-i.invariant.0;
     }
