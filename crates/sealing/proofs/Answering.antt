@@ -1,11 +1,11 @@
 -- The answers of the cipher's calls, once their questions are passed.
 use Rattle.std.proofs.Common.{◌≡◌, ℕ, ◌-◌, ◌*◌, ◌≤◌, Bool, true, ◌&&◌, eqb, leb, List, [], ◌++◌, length, take, drop, Some, None, Ok, Option, Result, sym, ap, ◌∙◌, arith}
 use Rattle.std.proofs.lemmas.List.{take_at, length-append}
-use Rattle.std.proofs.lemmas.Bool.{and_from, le-leb, eq-eqb}
+use Rattle.std.proofs.lemmas.Bool.{and_from, le-leb, leb-true, eq-eqb}
 use Rattle.digits.specs.Positional.{bits, trits, all_zero}
 use Rattle.keys.specs.Kinds.{Served, served, written, read_answer, value_asked}
 use Rattle.keys.specs.Refusals.{asked}
-use Rattle.keys.specs.Questions.{test_from_served, asked_yes, asked_within, written_within, value_from_ok}
+use Rattle.keys.specs.Questions.{served_from_test, test_from_served, asked_yes, asked_ok, asked_within, written_within, value_from_ok}
 use Rattle.sealing.specs.declared.records.SealedKey.{SealedKey}
 use Rattle.sealing.specs.Masking.{masked, packed_trits, unmasked}
 use Rattle.sealing.specs.Sealed.{sealed, cipher_asked, seal_answer, packed_length, record_of, trits_only, take_in_answer}
@@ -16,6 +16,13 @@ use Rattle.keys.specs.declared.refusals.Refusal.TheVariants.{KindWidth, ShortBuf
 pub cipher_asked_yes : {X : Type 0} (w scratch : ℕ) (next : Result X Refusal) → Served w → 32 ≤ scratch → cipher_asked w scratch next ≡ next
 cipher_asked_yes w scratch next s room =
     asked_yes (served w) KindWidth (asked (leb 32 scratch) ShortBuffer next) (test_from_served w s) ∙ asked_yes (leb 32 scratch) ShortBuffer next (le-leb 32 scratch room)
+
+-- what was answered at the end was asked with a yes to both
+pub cipher_asked_ok : {X : Type 0} (w scratch : ℕ) (next : Result X Refusal) (x : X) → cipher_asked w scratch next ≡ Ok x → Served w × (32 ≤ scratch) × (next ≡ Ok x)
+cipher_asked_ok w scratch next x e =
+    let first = asked_ok (served w) KindWidth _ x e in
+    let second = asked_ok (leb 32 scratch) ShortBuffer next x first.1 in
+    (served_from_test w first.0, leb-true 32 scratch second.0, second.1)
 
 -- the key bytes stand in front of a written scratch
 written_front : (w : ℕ) (key before : List ℕ) → Served w → w ≤ length before → length key ≡ w → take w (written w key before) ≡ key

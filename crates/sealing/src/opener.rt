@@ -5,7 +5,8 @@ ghost use Rattle.sealing.specs.Opened.{open_answer, found_answer, FoundLeft, tri
 ghost use Rattle.sealing.specs.Promises.{OpensExactly};
 
 use crate::SealedKey;
-use crate::scratch::Scratch;
+use crate::guards::{Scratch, Walkway};
+use crate::questions::asked_width;
 use digits::trit_at;
 use keys::{KeyKind, Refusal};
 use masks::MaskSource;
@@ -22,11 +23,9 @@ pub fn open<S: MaskSource, K: KeyKind>(
     ensures same_masks { S.masks source.new ≡ S.masks source.old }
     ensures restarted { S.walked source.new ≡ [] }
 {
-    let guard = Scratch(scratch);
-    source.restart();
-    let answer = open_key(source, key, guard.0);
-    source.restart(); // whatever the answer is
-    answer
+    let source = Walkway(source);
+    let scratch = Scratch(scratch);
+    open_key(source.0, key, scratch.0)
 }
 
 // The questions that opening asks, and then the opening itself.
@@ -35,17 +34,10 @@ fn open_key<S: MaskSource, K: KeyKind>(
     key: &SealedKey,
     scratch: &mut [u8],
 ) -> Result<K, Refusal>
-    requires { S.walked source.old ≡ [] }
     ensures answer { result ≡ open_answer (S.masks source.old) K.KeyKind.width K.KeyKind.decode (length scratch.old) key.now }
     ensures same_masks { S.masks source.new ≡ S.masks source.old }
 {
-    let width = K::width();
-    if width < 1 || width > 32 {
-        return Err(Refusal::KindWidth);
-    }
-    if scratch.len() < 32 {
-        return Err(Refusal::ShortBuffer);
-    }
+    let width = asked_width::<K>(scratch.len())?;
     if key.width != width {
         return Err(Refusal::OtherWidth);
     }
@@ -59,14 +51,14 @@ fn open_bytes<S: MaskSource>(
     sealed: &[u8; 52],
     key: &mut [u8],
 ) -> Result<(), Refusal>
-    requires start { S.walked source.old ≡ [] }
-    requires served { length key.old ≤ 32 }
+    requires { length key.old ≤ 32 }
     ensures answer { result ≡ found_answer (unmasked (S.masks source.old) [] (take (8 * length key.old) (trits sealed.now))) }
     ensures left { FoundLeft (unmasked (S.masks source.old) [] (take (8 * length key.old) (trits sealed.now))) key.new }
     ensures same_masks { S.masks source.new ≡ S.masks source.old }
 {
-    key.fill(0);
+    source.restart();
     let end = 8 * key.len();
+    key.fill(0);
     for i in 0..end {
         let bit = bit_behind(trit_at(sealed, i), source.mask())?;
         key[i / 8] += bit as u8 * (1 << (7 - i % 8));

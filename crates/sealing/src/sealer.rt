@@ -5,7 +5,8 @@ ghost use Rattle.sealing.specs.Promises.{SealsInOrder};
 ghost use Rattle.sealing.specs.Sealed.{seal_answer};
 
 use crate::SealedKey;
-use crate::scratch::Scratch;
+use crate::guards::{Scratch, Walkway};
+use crate::questions::asked_width;
 use digits::{TRIT_WEIGHTS, bit_at};
 use keys::{KeyKind, Refusal};
 use masks::MaskSource;
@@ -22,12 +23,10 @@ pub fn seal<S: MaskSource, K: KeyKind>(
     ensures same_masks { S.masks source.new ≡ S.masks source.old }
     ensures restarted { S.walked source.new ≡ [] }
 {
-    let guard = Scratch(scratch);
-    source.restart();
+    let source = Walkway(source);
+    let scratch = Scratch(scratch);
     value.is_lawful();
-    let answer = seal_value(source, value, guard.0);
-    source.restart(); // whatever the answer is
-    answer
+    seal_value(source.0, value, scratch.0)
 }
 
 // The questions that sealing asks, and then the sealing itself.
@@ -36,18 +35,11 @@ fn seal_value<S: MaskSource, K: KeyKind>(
     value: &K,
     scratch: &mut [u8],
 ) -> Result<SealedKey, Refusal>
-    requires start { S.walked source.old ≡ [] }
-    requires lawful { K.OrderedKey.lawful value.now }
+    requires { K.OrderedKey.lawful value.now }
     ensures answer { result ≡ seal_answer (S.masks source.old) K.KeyKind.width (length scratch.old) (K.KeyKind.encode value.now) }
     ensures same_masks { S.masks source.new ≡ S.masks source.old }
 {
-    let width = K::width();
-    if width < 1 || width > 32 {
-        return Err(Refusal::KindWidth);
-    }
-    if scratch.len() < 32 {
-        return Err(Refusal::ShortBuffer);
-    }
+    let width = asked_width::<K>(scratch.len())?;
     value.write(scratch)?;
     let bytes = seal_bytes(source, &scratch[0..width as usize])?;
     Ok(SealedKey { width, bytes })
@@ -55,11 +47,11 @@ fn seal_value<S: MaskSource, K: KeyKind>(
 
 // The packed trits of key bytes, whose bits the source walks along, the last one excepted.
 fn seal_bytes<S: MaskSource>(source: &mut S, key: &[u8]) -> Result<[u8; 52], Refusal>
-    requires start { S.walked source.old ≡ [] }
-    requires served { length key.now ≤ 32 }
+    requires { length key.now ≤ 32 }
     ensures answer { result ≡ Ok (packed_trits (masked (S.masks source.old) [] (bits key.now))) }
     ensures same_masks { S.masks source.new ≡ S.masks source.old }
 {
+    source.restart();
     let mut trits = [0u8; 52];
     let end = 8 * key.len();
     for i in 0..end {
