@@ -1,7 +1,7 @@
-ghost use Rattle.std.specs.Prelude.{◌≡◌, ℕ, ◌+◌, ◌%◌, ◌<◌, Bool, List, if◌then◌else◌, nat_eq};
+ghost use Rattle.std.specs.Prelude.{◌≡◌, ℕ, ◌+◌, ◌*◌, ◌%◌, ◌<◌, Bool, List, if◌then◌else◌, nat_eq};
 ghost use Rattle.std.specs.declared.cmp.Ordering.TheVariants.{Less, Greater};
 ghost use Rattle.digits.specs.Positional.{trits};
-ghost use Rattle.sealing.specs.Compared.{compared, trits_compared};
+ghost use Rattle.sealing.specs.Compared.{compared, trits_compared, FirstDifference};
 ghost use Rattle.sealing.specs.Promises.{ComparesAsSealed};
 ghost use Rattle.sealing.specs.Sealed.{FitsRecord, SealedUnder};
 ghost use Rattle.sealing.specs.SealedOrder.{sealed_flips, sealed_chains, sealed_same};
@@ -23,47 +23,44 @@ pub fn compare(a: &SealedKey, b: &SealedKey) -> Comparison
 fn compare_keys(a: &SealedKey, b: &SealedKey) -> Comparison
     ensures { result ≡ compared a.now b.now }
 {
-    if a.width < b.width {
-        return Comparison {
-            order: Ordering::Less,
-            place: 0,
-        };
+    match a.width.cmp(&b.width) {
+        Ordering::Equal => compare_trits(&a.bytes, &b.bytes),
+        order => Comparison { order, place: 0 },
     }
-    if b.width < a.width {
-        return Comparison {
-            order: Ordering::Greater,
-            place: 0,
-        };
-    }
-    compare_trits(&a.bytes, &b.bytes)
 }
 
-// Looks for the first different trit, byte by byte and then trit by trit.
+// By the first different trit.
 fn compare_trits(a: &[u8; 52], b: &[u8; 52]) -> Comparison
     ensures { result ≡ trits_compared 1 (trits a.now) (trits b.now) }
 {
-    'search: {
-        for i in 0..52usize {
-            if a[i] == b[i] {
-                continue;
-            }
-            for j in 0..5usize {
-                let place = 5 * i + j;
-                let x = trit_at(a, place);
-                let y = trit_at(b, place);
-                if x != y {
-                    break 'search Comparison {
-                        order: order_of_trits(x, y),
-                        place: place as u16 + 1,
-                    };
-                }
-            }
-        }
-        Comparison {
+    match different_trit(a, b) {
+        Some(place) => Comparison {
+            order: order_of_trits(trit_at(a, place), trit_at(b, place)),
+            place: place as u16 + 1,
+        },
+        None => Comparison {
             order: Ordering::Equal,
             place: 0,
-        }
+        },
     }
+}
+
+// The first place of a different trit, from 0.
+fn different_trit(a: &[u8; 52], b: &[u8; 52]) -> Option<usize>
+    ensures { FirstDifference (trits a.now) (trits b.now) 0 260 result }
+{
+    (0..52).find_map(|i| different_trit_of_byte(a, b, i))
+}
+
+// The same within byte `i`. Equal bytes, which have equal trits, are passed over whole.
+fn different_trit_of_byte(a: &[u8; 52], b: &[u8; 52], i: usize) -> Option<usize>
+    requires { i < 52 }
+    ensures { FirstDifference (trits a.now) (trits b.now) (5 * i) (5 * i + 5) result }
+{
+    if a[i] == b[i] {
+        return None;
+    }
+    (5 * i..5 * i + 5).find(|place| trit_at(a, *place) != trit_at(b, *place))
 }
 
 // Which of two different trits is the lesser: the one that the other follows, modulo 3.

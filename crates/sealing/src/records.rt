@@ -9,7 +9,7 @@ pub struct SealedKey {
 }
 
 /// How two sealed keys compare, and the place of the first different trit, from 1; 0 where no trit decides.
-#[derive(Clone, Copy)]
+#[derive(Clone, Copy, PartialEq, Eq, Debug)]
 pub struct Comparison {
     pub order: Ordering,
     pub place: u16,
