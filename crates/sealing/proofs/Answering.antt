@@ -1,5 +1,5 @@
 -- The answers of the cipher's calls, once their questions are passed.
-use Rattle.std.proofs.Common.{◌≡◌, ℕ, ◌-◌, ◌*◌, ◌≤◌, Bool, true, ◌&&◌, eqb, leb, List, [], ◌++◌, length, take, drop, Some, None, Ok, Option, Result, sym, ap, ◌∙◌, arith}
+use Rattle.std.proofs.Common.{◌≡◌, ℕ, ◌*◌, ◌≤◌, Bool, true, ◌&&◌, eqb, leb, List, [], ◌++◌, length, take, drop, Some, None, Ok, Option, Result, sym, ap, ◌∙◌, arith}
 use Rattle.std.proofs.lemmas.List.{take_at, length-append}
 use Rattle.std.proofs.lemmas.Bool.{and_from, le-leb, leb-true, eq-eqb}
 use Rattle.digits.specs.Positional.{bits, trits, all_zero}
@@ -31,18 +31,16 @@ written_front w key before s room long =
     ∙ take_at key (drop w before) w long
 
 -- the sealed bytes of what the kind wrote into the scratch
-pub seals_what_was_written : (f : List Bool → ℕ) (w width : ℕ) (key scratch out bytes : List ℕ) → width ≡ w → Served w → 32 ≤ length scratch → length key ≡ w
-    → out ≡ written w key scratch → ◌≡◌ {A = Result (List ℕ) Refusal} (Ok bytes) (Ok (packed_trits (masked f [] (bits (take (width - 0) out)))))
-    → ◌≡◌ {A = Result SealedKey Refusal} (Ok (record { width = width; bytes = bytes })) (seal_answer f w (length scratch) key)
+pub seals_what_was_written : (f : List Bool → ℕ) (w : ℕ) (key scratch out bytes : List ℕ) → Served w → 32 ≤ length scratch → length key ≡ w → out ≡ written w key scratch
+    → ◌≡◌ {A = Result (List ℕ) Refusal} (Ok bytes) (Ok (packed_trits (masked f [] (bits (take w out)))))
+    → ◌≡◌ {A = Result SealedKey Refusal} (Ok (record { width = w; bytes = bytes })) (seal_answer f w (length scratch) key)
 unfolding sealed
-seals_what_was_written f w width key scratch out bytes width_is s room long out_is bytes_are =
+seals_what_was_written f w key scratch out bytes s room long out_is bytes_are =
     let there : w ≤ length scratch = let upper = s.1 in omega arith in
-    let same : width - 0 ≡ w = omega arith in
-    let front : take (width - 0) out ≡ key = ap (take (width - 0)) out_is ∙ ap (λ n. take n (written w key scratch)) same ∙ written_front w key scratch s there long in
-    let sealed_bytes : bytes ≡ packed_trits (masked f [] (bits key)) = value_from_ok bytes _ bytes_are ∙ ap (λ k. packed_trits (masked f [] (bits k))) front in
-    ap (λ bs. Ok (record { width = width; bytes = bs })) sealed_bytes
-    ∙ ap (λ n. Ok (record { width = n; bytes = packed_trits (masked f [] (bits key)) })) (width_is ∙ sym long)
-    ∙ sym (cipher_asked_yes w (length scratch) (Ok (sealed f key)) s room)
+    let front : take w out ≡ key = ap (take w) out_is ∙ written_front w key scratch s there long in
+    let sealed_so : ◌≡◌ {A = SealedKey} (record { width = w; bytes = bytes }) (record { width = length key; bytes = packed_trits (masked f [] (bits key)) }) =
+    λ i. record { width = sym long i; bytes = (value_from_ok bytes _ bytes_are ∙ ap (λ k. packed_trits (masked f [] (bits k))) front) i } in
+    ap (λ k. Ok k) sealed_so ∙ sym (cipher_asked_yes w (length scratch) _ s room)
 
 pub take_in_answer_is : (w : ℕ) (packed : List ℕ) → Served w → length packed ≡ packed_length w → trits_only packed ≡ true → all_zero (drop (8 * w) (trits packed)) ≡ true
     → take_in_answer w packed ≡ Ok (record_of w packed)

@@ -11,7 +11,7 @@ use Rattle.std.proofs.iter.Yields.{nat_range_steps}
 use Rattle.std.proofs.iter.runs.Sources.{range_runs}
 use denote.Param.Members.{Mut}
 use Rattle.digits.specs.Positional.{trits}
-use Rattle.digits.proofs.Packing.{digit_at, length_unpacked}
+use Rattle.digits.proofs.Packing.{digit_at}
 use Rattle.sealing.specs.declared.records.Comparison.{Comparison}
 use Rattle.sealing.specs.Compared.{decided, trits_compared, FirstDifference}
 

@@ -1,13 +1,13 @@
 -- Opening gives back exactly what was sealed.
-use Rattle.std.proofs.Common.{◌≡◌, ℕ, ◌+◌, ◌-◌, ◌*◌, ◌%◌, ◌<◌, ◌≤◌, Bool, true, false, eqb, leb, List, [], ◌∷◌, ◌++◌, map, length, take, replicate, Some, None, Ok, Option, sym, refl, ap, ◌∙◌, ⊎_elim, arith, lit<}
+use Rattle.std.proofs.Common.{◌≡◌, ℕ, ◌+◌, ◌-◌, ◌*◌, ◌%◌, ◌<◌, ◌≤◌, Bool, true, false, eqb, List, [], ◌∷◌, ◌++◌, map, length, take, replicate, Some, None, Ok, Option, sym, refl, ap, ◌∙◌, ⊎_elim, arith, lit<}
 use mir.Val.{bool_byte}
 use Rattle.std.proofs.lemmas.List.{append_assoc, append-nil, length-take-le, take_at}
 use Rattle.std.proofs.lemmas.Bool.{cond-true, cond-false, eq-eqb, ne_eqb, eqb-true, cases_Bool}
 use Rattle.digits.specs.Positional.{bits, trits}
 use Rattle.digits.proofs.Bits.{bits_of_packed, bits_small, bytes_of_bits}
 use Rattle.digits.proofs.Packing.{length_bits, length_packed, length_unpacked, packed_lt}
-use Rattle.keys.specs.Kinds.{Bytes, Served, served, value_asked}
-use Rattle.keys.specs.Questions.{asked_ok, served_from_test}
+use Rattle.keys.specs.Kinds.{Bytes, Served, value_asked}
+use Rattle.keys.specs.Questions.{asked_ok}
 use Rattle.sealing.specs.declared.records.SealedKey.{SealedKey}
 use Rattle.sealing.specs.Masking.{masked, packed_trits, unmasked}
 use Rattle.sealing.specs.Sealed.{sealed, TakenIn}
@@ -16,7 +16,7 @@ use Rattle.sealing.proofs.Answering.{cipher_asked_ok, open_answer_is}
 use Rattle.sealing.specs.MaskingLemmas.{length_masked}
 use Rattle.sealing.specs.SealedOrder.{sealed_trits}
 use Rattle.sealing.proofs.TakenIn.{taken_in_length, taken_in_repacks}
-use Rattle.keys.specs.declared.refusals.Refusal.TheVariants.{KindWidth, ShortBuffer, OtherWidth}
+use Rattle.keys.specs.declared.refusals.Refusal.TheVariants.{OtherWidth}
 
 module _ (f : List Bool → ℕ) (small : (list : List Bool) → f list < 3) where
   -- the trits of bits give the bits back

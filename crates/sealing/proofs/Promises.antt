@@ -1,9 +1,8 @@
 -- The promises of sealing and opening follow from their answers and a kind's laws.
-use Rattle.std.proofs.Common.{◌≡◌, ℕ, ◌<◌, Bool, leb, List, length, Some, Ok, Option, Result, Ordering, sym, ap, ◌∙◌, arith}
+use Rattle.std.proofs.Common.{◌≡◌, ℕ, ◌<◌, Bool, List, length, Some, Ok, Option, Result, Ordering, sym, ap, ◌∙◌, arith}
 use Rattle.digits.specs.Orders.{row_order}
 use Rattle.digits.specs.Positional.{bits}
-use Rattle.keys.specs.Kinds.{Bytes, Served, served, value_asked}
-use Rattle.keys.specs.Refusals.{asked}
+use Rattle.keys.specs.Kinds.{Bytes, Served, value_asked}
 use Rattle.keys.specs.Questions.{value_from_ok}
 use Rattle.sealing.specs.declared.records.SealedKey.{SealedKey}
 use Rattle.sealing.specs.Compared.{decided, compared, first_different_bit}
@@ -15,7 +14,6 @@ use Rattle.sealing.proofs.Opening.{opens_sealed, opened_seals, opened_served}
 use Rattle.sealing.specs.SealedOrder.{compares_as_bytes}
 use Rattle.sealing.proofs.TakenIn.{sealed_taken_in}
 use Rattle.keys.specs.declared.refusals.Refusal.{Refusal}
-use Rattle.keys.specs.declared.refusals.Refusal.TheVariants.{KindWidth, ShortBuffer}
 
 pub compares_as_sealed : (a b : SealedKey) → ComparesAsSealed a b (compared a b)
 compares_as_sealed a b f u v u_bytes v_bytes u_served long a_is b_is =

@@ -1,5 +1,5 @@
 -- Sealed keys as records, and what sealing and taking in answer.
-use Rattle.std.specs.Prelude.{◌≡◌, ℕ, ◌+◌, ◌-◌, ◌*◌, ◌/◌, ◌<◌, Bool, true, ◌&&◌, List, [], ◌∷◌, ◌++◌, length, drop, replicate, Ok, Result, ◌==◌, nat_le}
+use Rattle.std.specs.Prelude.{◌≡◌, ℕ, ◌+◌, ◌-◌, ◌*◌, ◌/◌, ◌<◌, Bool, ◌&&◌, List, [], ◌++◌, length, drop, replicate, Ok, Result, ◌==◌, nat_le}
 use Rattle.std.specs.List.{list_all}
 use Rattle.digits.specs.Positional.{bits, trits, all_zero}
 use Rattle.keys.specs.Refusals.{asked}

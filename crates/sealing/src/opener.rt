@@ -41,7 +41,7 @@ fn open_key<S: MaskSource, K: KeyKind>(
     if key.width != width {
         return Err(Refusal::OtherWidth);
     }
-    open_bytes(source, &key.bytes, &mut scratch[0..width as usize])?;
+    open_bytes(source, &key.bytes, &mut scratch[..width as usize])?;
     K::read(scratch)
 }
 

@@ -41,7 +41,7 @@ fn seal_value<S: MaskSource, K: KeyKind>(
 {
     let width = asked_width::<K>(scratch.len())?;
     value.write(scratch)?;
-    let bytes = seal_bytes(source, &scratch[0..width as usize])?;
+    let bytes = seal_bytes(source, &scratch[..width as usize])?;
     Ok(SealedKey { width, bytes })
 }
 

@@ -24,7 +24,7 @@ pub fn take_in(width: u8, packed: &[u8]) -> Result<SealedKey, Refusal>
         return Err(Refusal::NotTrits);
     }
     let mut bytes = [0u8; 52];
-    bytes[0..packed.len()].copy_from_slice(packed);
+    bytes[..packed.len()].copy_from_slice(packed);
     Ok(SealedKey { width, bytes })
 }
 
@@ -58,7 +58,7 @@ impl SealedKey {
     pub fn packed(&self) -> &[u8]
         ensures { result.now ≡ take (packed_length self.now.width) self.now.bytes }
     {
-        let length = packed_length(self.width).min(52);
-        &self.bytes[0..length]
+        let length = packed_length(self.width).min(self.bytes.len());
+        &self.bytes[..length]
     }
 }

@@ -1,4 +1,4 @@
-use Rattle.std.proofs.Common.{◌≡◌, ◌+◌, ◌*◌, ◌<◌, length, get_or, sym, ap, ◌∙◌, arith, lit<}
+use Rattle.std.proofs.Common.{◌+◌, ◌<◌, sym, ap, ◌∙◌, arith, lit<}
 use Rattle.std.proofs.ByRecursion.{All-get_or}
 use Rattle.digits.specs.Positional.{trits}
 use Rattle.digits.proofs.Packing.{length_unpacked, unpacked_lt}

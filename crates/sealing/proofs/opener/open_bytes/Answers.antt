@@ -1,10 +1,9 @@
-use Rattle.std.proofs.Common.{◌≡◌, ◌-◌, ◌%◌, ◌≤◌, [], length, replicate, Some, None, Err, sym, refl, ap, ◌∙◌, arith, rules}
+use Rattle.std.proofs.Common.{◌≡◌, ◌-◌, ◌%◌, length, replicate, Err, sym, ap, ◌∙◌, arith, rules}
 use Rattle.std.proofs.lemmas.Nat.{one_shl}
 use Rattle.std.proofs.lemmas.Result.{err_from_is_err_and}
-use Rattle.sealing.specs.Masking.{unmasked}
 use Rattle.sealing.specs.Opened.{bytes_of, found_answer}
 use Rattle.sealing.proofs.Walking.{steps_on, never_refused}
-use Rattle.sealing.proofs.Unmasking.{first_trits, nothing_opened, no_bit_behind, written_fits, one_more_opened, all_opened}
+use Rattle.sealing.proofs.Unmasking.{nothing_opened, no_bit_behind, written_fits, one_more_opened, all_opened}
 use Rattle.sealing.proofs.opener.open_bytes.Goals as goal
 use Rattle.sealing.proofs.opener.open_bytes.Goals.{then-i-end+in_ok-step, else-i-end}
 

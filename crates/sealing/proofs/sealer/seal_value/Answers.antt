@@ -1,19 +1,16 @@
-use Rattle.std.proofs.Common.{length, sym, arith}
-use Rattle.keys.specs.Kinds.{Served}
+use Rattle.std.proofs.Common.{length, sym}
 use Rattle.keys.specs.Questions.{value_from_ok}
 use Rattle.sealing.proofs.Answering.{cipher_asked_ok, seals_what_was_written}
 use Rattle.sealing.proofs.sealer.seal_value.Goals as goal
 
-pub returns : goal.returns
-returns g c =
+pub returns-clause-answer : goal.returns-clause-answer
+returns-clause-answer g c =
     let kind = g.K.KeyKind in
     let value = c.args.value.now in
     let scratch = c.args.scratch.now in
     let width = c.in_ok-width.width in
     let asked = cipher_asked_ok kind.width (length scratch) _ width (sym c.in_ok-width.ensures) in
     let width_is = value_from_ok _ _ (sym asked.2) in
-    record {
-      answer = seals_what_was_written (g.S.MaskSource.masks c.args.source.now) kind.width width (kind.encode value) scratch c.write.new.out c.in_ok-bytes.bytes
-          width_is asked.0 asked.1 (g.met.K.KeyKind.wide value c.requires asked.0) c.write.ensures.left c.in_ok-bytes.ensures.answer;
-      same_masks = c.seal_bytes.ensures.same_masks;
-    }
+    rw width_is
+    (seals_what_was_written (g.S.MaskSource.masks c.args.source.now) kind.width (kind.encode value) scratch c.write.new.out c.in_ok-bytes.bytes
+    asked.0 asked.1 (g.met.K.KeyKind.wide value c.requires asked.0) c.write.ensures.left (rw width_is at c.in_ok-bytes.ensures.answer))
