@@ -25,24 +25,13 @@ pub fn open<S: MaskSource, K: KeyKind>(
 {
     let source = Walkway(source);
     let scratch = Scratch(scratch);
-    open_key(source.0, key, scratch.0)
-}
-
-// The questions that opening asks, and then the opening itself.
-fn open_key<S: MaskSource, K: KeyKind>(
-    source: &mut S,
-    key: &SealedKey,
-    scratch: &mut [u8],
-) -> Result<K, Refusal>
-    ensures answer { result ≡ open_answer (S.masks source.old) K.KeyKind.width K.KeyKind.decode (length scratch.old) key.now }
-    ensures same_masks { S.masks source.new ≡ S.masks source.old }
-{
-    let width = asked_width::<K>(scratch.len())?;
+    let width = asked_width::<K>(scratch.0.len())?;
     if key.width != width {
         return Err(Refusal::OtherWidth);
     }
-    open_bytes(source, &key.bytes, &mut scratch[..width as usize])?;
-    K::read(scratch)
+    let bytes = &mut *scratch.0;
+    open_bytes(source.0, &key.bytes, &mut bytes[..width as usize])?;
+    K::read(bytes)
 }
 
 // Finds the bits behind the trits and writes them into the key bytes. The source walks along, the last bit excepted.

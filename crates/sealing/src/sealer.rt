@@ -26,22 +26,9 @@ pub fn seal<S: MaskSource, K: KeyKind>(
     let source = Walkway(source);
     let scratch = Scratch(scratch);
     value.is_lawful();
-    seal_value(source.0, value, scratch.0)
-}
-
-// The questions that sealing asks, and then the sealing itself.
-fn seal_value<S: MaskSource, K: KeyKind>(
-    source: &mut S,
-    value: &K,
-    scratch: &mut [u8],
-) -> Result<SealedKey, Refusal>
-    requires { K.OrderedKey.lawful value.now }
-    ensures answer { result ≡ seal_answer (S.masks source.old) K.KeyKind.width (length scratch.old) (K.KeyKind.encode value.now) }
-    ensures same_masks { S.masks source.new ≡ S.masks source.old }
-{
-    let width = asked_width::<K>(scratch.len())?;
-    value.write(scratch)?;
-    let bytes = seal_bytes(source, &scratch[..width as usize])?;
+    let width = asked_width::<K>(scratch.0.len())?;
+    value.write(scratch.0)?;
+    let bytes = seal_bytes(source.0, &scratch.0[..width as usize])?;
     Ok(SealedKey { width, bytes })
 }
 
