@@ -1,5 +1,5 @@
 -- Comparing trits one by one.
-use Rattle.std.proofs.Common.{◌≡◌, ℕ, zero, suc, ◌+◌, ◌-◌, ◌*◌, ◌/◌, ◌%◌, ◌^◌, ◌<◌, ◌≤◌, Some, None, Option, Equal, cond, eqb, List, length, get_or, drop, Less, Greater, sym, refl, ap, ◌∙◌, ⊎_elim, add-one, zero-add, arith}
+use Rattle.std.proofs.Common.{◌≡◌, ℕ, zero, suc, ◌+◌, ◌-◌, ◌*◌, ◌/◌, ◌%◌, ◌^◌, ◌<◌, ◌≤◌, Some, None, Option, Equal, cond, eqb, List, [], ◌∷◌, length, get_or, drop, Less, Greater, sym, refl, ap, ◌∙◌, ⊎_elim, add-one, zero-add, arith}
 use Rattle.std.proofs.lemmas.List.{drop_more, drop_all}
 use Rattle.std.proofs.lemmas.Bool.{cases_lt, cond-true, cond-false, eq-eqb, ne_eqb}
 use Rattle.std.specs.Option.{option_map, IfSome, IsSomeAnd, MatchOption}
@@ -15,51 +15,34 @@ use Rattle.digits.proofs.Packing.{digit_at}
 use Rattle.sealing.specs.declared.records.Comparison.{Comparison}
 use Rattle.sealing.specs.Compared.{decided, trits_compared, FirstDifference}
 
--- comparing two rows from place k on
-abbrev pub compared_from : ℕ → List ℕ → List ℕ → Comparison
-compared_from k xs ys = trits_compared (k + 1) (drop k xs) (drop k ys)
+-- what comparing gives from a place on, where rows of one length nowhere differ
+none_from : (from : ℕ) (xs ys : List ℕ) → length xs ≡ length ys → ((k : ℕ) → k < length xs → get_or xs k 0 ≡ get_or ys k 0) → trits_compared from xs ys ≡ decided Equal 0
+none_from from [] ys e same = refl
+none_from from (x ∷ xs) [] e same = refl
+none_from from (x ∷ xs) (y ∷ ys) e same =
+    cond-true (eqb x y) _ _ (eq-eqb x y (same 0 (omega arith))) ∙ none_from (suc from) xs ys (omega arith) (λ k h. same (suc k) (omega arith))
 
-module _ (xs ys : List ℕ) (k : ℕ) (in_xs : k < length xs) (in_ys : k < length ys) where
-  at_place : compared_from k xs ys
-      ≡ cond (eqb (get_or xs k 0) (get_or ys k 0)) (compared_from (k + 1) xs ys) (decided (cond (eqb (get_or ys k 0) ((get_or xs k 0 + 1) % 3)) Less Greater) (k + 1))
-  at_place =
-      let more_xs = drop_more xs k 0 in_xs in
-      let more_ys = drop_more ys k 0 in_ys in
-      let next = add-one (k + 1) in
-      rw (more_xs, more_ys, next) refl
-
-  pub same_trit : get_or xs k 0 ≡ get_or ys k 0 → compared_from k xs ys ≡ compared_from (k + 1) xs ys
-  same_trit e = at_place ∙ cond-true (eqb (get_or xs k 0) (get_or ys k 0)) _ _ (eq-eqb (get_or xs k 0) (get_or ys k 0) e)
-
-  pub other_trit : (get_or xs k 0 ≡ get_or ys k 0 → ⊥) → compared_from k xs ys ≡ decided (cond (eqb (get_or ys k 0) ((get_or xs k 0 + 1) % 3)) Less Greater) (k + 1)
-  other_trit ne = at_place ∙ cond-false (eqb (get_or xs k 0) (get_or ys k 0)) _ _ (ne_eqb (get_or xs k 0) (get_or ys k 0) ne)
-
--- m places in a row at which nothing differs
-same_run : (xs ys : List ℕ) (m k : ℕ) → k + m ≤ length xs → k + m ≤ length ys → ((j : ℕ) → j < m → get_or xs (k + j) 0 ≡ get_or ys (k + j) 0)
-    → compared_from k xs ys ≡ compared_from (k + m) xs ys
-same_run xs ys zero k in_xs in_ys same = let e : k + 0 ≡ k = omega arith in rw e refl
-same_run xs ys (suc m) k in_xs in_ys same =
-    let first : get_or xs k 0 ≡ get_or ys k 0 = let e : k + 0 ≡ k = omega arith in rw e at (same 0 (omega arith)) in
-    let on : k + 1 + m ≡ k + suc m = omega arith in
-    same_trit xs ys k (omega arith) (omega arith) first
-    ∙ same_run xs ys m (k + 1) (omega arith) (omega arith) (λ j h. let e : k + 1 + j ≡ k + suc j = omega arith in rw e (same (suc j) (omega arith)))
-    ∙ ap (λ n. compared_from n xs ys) on
-
--- rows that agree below n
-same_front : (xs ys : List ℕ) (n : ℕ) → n ≤ length xs → n ≤ length ys → ((k : ℕ) → 0 ≤ k → k < n → get_or xs k 0 ≡ get_or ys k 0) → trits_compared 1 xs ys ≡ compared_from n xs ys
-same_front xs ys n in_xs in_ys same =
-    same_run xs ys n 0 (omega arith) (omega arith) (λ j h. rw (zero-add j) (same j (omega arith) h)) ∙ ap (λ m. compared_from m xs ys) (zero-add n)
+-- and where they differ first at k
+one_from : (from k : ℕ) (xs ys : List ℕ) → k < length xs → k < length ys → ((j : ℕ) → j < k → get_or xs j 0 ≡ get_or ys j 0) → (get_or xs k 0 ≡ get_or ys k 0 → ⊥)
+    → trits_compared from xs ys ≡ decided (cond (eqb (get_or ys k 0) ((get_or xs k 0 + 1) % 3)) Less Greater) (k + from)
+one_from from k [] ys in_xs in_ys same differ = absurd (omega arith)
+one_from from k (x ∷ xs) [] in_xs in_ys same differ = absurd (omega arith)
+one_from from zero (x ∷ xs) (y ∷ ys) in_xs in_ys same differ =
+    cond-false (eqb x y) _ _ (ne_eqb x y differ) ∙ ap (decided (cond (eqb y ((x + 1) % 3)) Less Greater)) (omega arith)
+one_from from (suc k) (x ∷ xs) (y ∷ ys) in_xs in_ys same differ =
+    cond-true (eqb x y) _ _ (eq-eqb x y (same 0 (omega arith)))
+    ∙ one_from (suc from) k xs ys (omega arith) (omega arith) (λ j h. same (suc j) (omega arith)) differ
+    ∙ ap (decided (cond (eqb (get_or ys k 0) ((get_or xs k 0 + 1) % 3)) Less Greater)) (omega arith)
 
 -- what comparing gives, by the first difference
 module _ (xs ys : List ℕ) (n : ℕ) (in_xs : length xs ≡ n) (in_ys : length ys ≡ n) where
   pub none_differs : FirstDifference xs ys 0 n None → trits_compared 1 xs ys ≡ decided Equal 0
-  none_differs same =
-      same_front xs ys n (omega arith) (omega arith) same ∙ ap (λ rest. trits_compared (n + 1) rest (drop n ys)) (drop_all n xs (omega arith))
+  none_differs same = none_from 1 xs ys (omega arith) (λ k h. same k (omega arith) (omega arith))
 
   pub one_differs : (place : ℕ) → FirstDifference xs ys 0 n (Some place)
       → trits_compared 1 xs ys ≡ decided (cond (eqb (get_or ys place 0) ((get_or xs place 0 + 1) % 3)) Less Greater) (place + 1)
   one_differs place told =
-      same_front xs ys place (omega (arith, told.1)) (omega (arith, told.1)) told.3 ∙ other_trit xs ys place (omega (arith, told.1)) (omega (arith, told.1)) told.2
+      one_from 1 place xs ys (omega (arith, told.1)) (omega (arith, told.1)) (λ j h. told.3 j (omega arith) h) told.2
 
 module _ (a b : List ℕ) (i : ℕ) (in_a : i < length a) (in_b : i < length b) where
   -- equal bytes have equal trits
