@@ -4,6 +4,7 @@ use Rattle.digits.specs.Orders.{row_order}
 use Rattle.digits.specs.Positional.{bits}
 use Rattle.keys.specs.Kinds.{Bytes, Served, value_asked}
 use Rattle.keys.specs.Questions.{value_from_ok}
+use Rattle.sealing.specs.declared.records.Comparison.{Comparison}
 use Rattle.sealing.specs.declared.records.SealedKey.{SealedKey}
 use Rattle.sealing.specs.Compared.{decided, compared, first_different_bit}
 use Rattle.sealing.specs.Opened.{open_answer}
@@ -15,10 +16,10 @@ use Rattle.sealing.specs.SealedOrder.{compares_as_bytes}
 use Rattle.sealing.proofs.TakenIn.{sealed_taken_in}
 use Rattle.keys.specs.declared.refusals.Refusal.{Refusal}
 
-pub compares_as_sealed : (a b : SealedKey) → ComparesAsSealed a b (compared a b)
-compares_as_sealed a b f u v u_bytes v_bytes u_served long a_is b_is =
+pub compares_as_sealed : (a b : SealedKey) (answer : Comparison) → answer ≡ compared a b → ComparesAsSealed a b answer
+compares_as_sealed a b answer told f u v u_bytes v_bytes u_served long a_is b_is =
     let v_served : Served (length v) = (let lower = u_served.0 in omega arith, let upper = u_served.1 in omega arith) in
-    ap (λ k. compared k b) a_is ∙ ap (compared (sealed f u)) b_is ∙ compares_as_bytes f u v u_bytes v_bytes u_served v_served long
+    told ∙ ap (λ k. compared k b) a_is ∙ ap (compared (sealed f u)) b_is ∙ compares_as_bytes f u v u_bytes v_bytes u_served v_served long
 
 module _ {V : Type 0} (width : ℕ) (order : V → V → Ordering) (lawful : V → Type 0) (encode : V → List ℕ) (f : List Bool → ℕ)
     (wide : (v : V) → lawful v → Served width → length (encode v) ≡ width)

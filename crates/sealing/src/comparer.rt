@@ -11,17 +11,10 @@ use digits::trit_at;
 use keys::{OrderedKey, are_bytes};
 use std::cmp::Ordering;
 
-/// Compares two sealed keys, without any secret.
+/// Compares two sealed keys by width, and then by trits. It needs no secret.
 pub fn compare(a: &SealedKey, b: &SealedKey) -> Comparison
     ensures answer { result ≡ compared a.now b.now }
     ensures as_the_values { ComparesAsSealed a.now b.now result }
-{
-    compare_keys(a, b)
-}
-
-// By width, and then by trits.
-fn compare_keys(a: &SealedKey, b: &SealedKey) -> Comparison
-    ensures { result ≡ compared a.now b.now }
 {
     match a.width.cmp(&b.width) {
         Ordering::Equal => compare_trits(&a.bytes, &b.bytes),
@@ -91,7 +84,7 @@ impl OrderedKey for SealedKey {
     ghost same = { λ f a b p q. sealed_same f a b p q };
 
     fn compare(&self, other: &SealedKey) -> Ordering {
-        compare_keys(self, other).order
+        compare(self, other).order
     }
 
     fn is_lawful(&self) {
