@@ -6,6 +6,7 @@ ghost use Rattle.sealing.specs.Promises.{ComparesAsSealed};
 ghost use Rattle.sealing.specs.Sealed.{FitsRecord, SealedUnder};
 ghost use Rattle.sealing.specs.SealedOrder.{sealed_flips, sealed_chains, sealed_same};
 
+use crate::records::PACKED;
 use crate::{Comparison, SealedKey};
 use digits::trit_at;
 use keys::{OrderedKey, are_bytes};
@@ -23,7 +24,7 @@ pub fn compare(a: &SealedKey, b: &SealedKey) -> Comparison
 }
 
 // By the first different trit.
-fn compare_trits(a: &[u8; 52], b: &[u8; 52]) -> Comparison
+fn compare_trits(a: &[u8; PACKED], b: &[u8; PACKED]) -> Comparison
     ensures { result ≡ trits_compared 1 (trits a.now) (trits b.now) }
 {
     match different_trit(a, b) {
@@ -39,14 +40,14 @@ fn compare_trits(a: &[u8; 52], b: &[u8; 52]) -> Comparison
 }
 
 // The first place of a different trit, from 0.
-fn different_trit(a: &[u8; 52], b: &[u8; 52]) -> Option<usize>
+fn different_trit(a: &[u8; PACKED], b: &[u8; PACKED]) -> Option<usize>
     ensures { FirstDifference (trits a.now) (trits b.now) 0 260 result }
 {
-    (0..52).find_map(|i| different_trit_of_byte(a, b, i))
+    (0..PACKED).find_map(|i| different_trit_of_byte(a, b, i))
 }
 
 // The same within byte `i`. Equal bytes, which have equal trits, are passed over whole.
-fn different_trit_of_byte(a: &[u8; 52], b: &[u8; 52], i: usize) -> Option<usize>
+fn different_trit_of_byte(a: &[u8; PACKED], b: &[u8; PACKED], i: usize) -> Option<usize>
     requires { i < 52 }
     ensures { FirstDifference (trits a.now) (trits b.now) (5 * i) (5 * i + 5) result }
 {

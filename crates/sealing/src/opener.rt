@@ -7,6 +7,7 @@ ghost use Rattle.sealing.specs.Promises.{OpensExactly};
 use crate::SealedKey;
 use crate::guards::{Scratch, Walkway};
 use crate::questions::asked_width;
+use crate::records::PACKED;
 use digits::trit_at;
 use keys::{KeyKind, Refusal};
 use masks::MaskSource;
@@ -37,7 +38,7 @@ pub fn open<S: MaskSource, K: KeyKind>(
 // Finds the bits behind the trits and writes them into the key bytes. The source walks along, the last bit excepted.
 fn open_bytes<S: MaskSource>(
     source: &mut S,
-    sealed: &[u8; 52],
+    sealed: &[u8; PACKED],
     key: &mut [u8],
 ) -> Result<(), Refusal>
     requires { length key.old ≤ 32 }

@@ -7,6 +7,7 @@ ghost use Rattle.sealing.specs.Sealed.{seal_answer};
 use crate::SealedKey;
 use crate::guards::{Scratch, Walkway};
 use crate::questions::asked_width;
+use crate::records::PACKED;
 use digits::{TRIT_WEIGHTS, bit_at};
 use keys::{KeyKind, Refusal};
 use masks::MaskSource;
@@ -33,13 +34,13 @@ pub fn seal<S: MaskSource, K: KeyKind>(
 }
 
 // The packed trits of key bytes, whose bits the source walks along, the last one excepted.
-fn seal_bytes<S: MaskSource>(source: &mut S, key: &[u8]) -> Result<[u8; 52], Refusal>
+fn seal_bytes<S: MaskSource>(source: &mut S, key: &[u8]) -> Result<[u8; PACKED], Refusal>
     requires { length key.now ≤ 32 }
     ensures answer { result ≡ Ok (packed_trits (masked (S.masks source.old) [] (bits key.now))) }
     ensures same_masks { S.masks source.new ≡ S.masks source.old }
 {
     source.restart();
-    let mut trits = [0u8; 52];
+    let mut trits = [0; PACKED];
     let end = 8 * key.len();
     for i in 0..end {
         let bit = bit_at(key, i);

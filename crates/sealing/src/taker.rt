@@ -3,6 +3,7 @@ ghost use Rattle.digits.specs.Positional.{trits, all_zero};
 ghost use Rattle.sealing.specs.Sealed.{packed_length, take_in_answer, trits_only};
 
 use crate::SealedKey;
+use crate::records::PACKED;
 use digits::trit_at;
 use keys::{Refusal, is_served};
 
@@ -23,7 +24,7 @@ pub fn take_in(width: u8, packed: &[u8]) -> Result<SealedKey, Refusal>
     if !are_trits(packed) || !are_zeros(packed, 8 * width as usize) {
         return Err(Refusal::NotTrits);
     }
-    let mut bytes = [0u8; 52];
+    let mut bytes = [0; PACKED];
     bytes[..packed.len()].copy_from_slice(packed);
     Ok(SealedKey { width, bytes })
 }
