@@ -1,6 +1,5 @@
 -- Comparing trits one by one.
-use Rattle.std.proofs.Common.{◌≡◌, ℕ, zero, suc, ◌+◌, ◌-◌, ◌*◌, ◌/◌, ◌%◌, ◌^◌, ◌<◌, ◌≤◌, Some, None, Option, Equal, cond, eqb, List, [], ◌∷◌, length, get_or, drop, Less, Greater, sym, refl, ap, ◌∙◌, ⊎_elim, add-one, zero-add, arith}
-use Rattle.std.proofs.lemmas.List.{drop_more, drop_all}
+use Rattle.std.proofs.Common.{◌≡◌, ℕ, zero, suc, ◌+◌, ◌-◌, ◌*◌, ◌/◌, ◌%◌, ◌^◌, ◌<◌, ◌≤◌, Some, None, Option, Equal, cond, eqb, List, [], ◌∷◌, length, get_or, Less, Greater, sym, refl, ap, ◌∙◌, ⊎_elim, arith}
 use Rattle.std.proofs.lemmas.Bool.{cases_lt, cond-true, cond-false, eq-eqb, ne_eqb}
 use Rattle.std.specs.Option.{option_map, IfSome, IsSomeAnd, MatchOption}
 use Rattle.std.specs.Bool.{IsTrue}
@@ -12,7 +11,6 @@ use Rattle.std.proofs.iter.runs.Sources.{range_runs}
 use denote.Param.Members.{Mut}
 use Rattle.digits.specs.Positional.{trits}
 use Rattle.digits.proofs.Packing.{digit_at}
-use Rattle.sealing.specs.declared.records.Comparison.{Comparison}
 use Rattle.sealing.specs.Compared.{decided, trits_compared, FirstDifference}
 
 -- what comparing gives from a place on, where rows of one length nowhere differ

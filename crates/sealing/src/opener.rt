@@ -51,7 +51,7 @@ fn open_bytes<S: MaskSource>(
     key.fill(0);
     for i in 0..end {
         let bit = bit_behind(trit_at(sealed, i), source.mask())?;
-        key[i / 8] += bit as u8 * (1 << (7 - i % 8));
+        key[i / 8] += (bit as u8) << (7 - i % 8);
         if i + 1 < end {
             source.step(bit)?;
         }

@@ -42,6 +42,7 @@ fn seal_bytes<S: MaskSource>(source: &mut S, key: &[u8]) -> Result<[u8; PACKED],
     source.restart();
     let mut trits = [0; PACKED];
     let end = 8 * key.len();
+    // the i-th bit stands in byte i / 8 of the key, and its trit in byte i / 5 of the packed ones
     for i in 0..end {
         let bit = bit_at(key, i);
         let trit = (source.mask() + bit as u8) % 3;

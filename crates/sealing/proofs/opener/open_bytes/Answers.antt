@@ -1,6 +1,8 @@
 use Rattle.std.proofs.Common.{◌≡◌, ◌-◌, ◌%◌, length, replicate, Err, sym, ap, ◌∙◌, arith, rules}
-use Rattle.std.proofs.lemmas.Nat.{one_shl}
+use Rattle.std.proofs.lemmas.Nat.{shl_whole}
 use Rattle.std.proofs.lemmas.Result.{err_from_is_err_and}
+use mir.Val.{bool_byte}
+use Rattle.digits.proofs.Bits.{bit_small}
 use Rattle.sealing.specs.Opened.{bytes_of, found_answer}
 use Rattle.sealing.proofs.Walking.{steps_on, never_refused}
 use Rattle.sealing.proofs.Unmasking.{nothing_opened, no_bit_behind, written_fits, one_more_opened, all_opened}
@@ -36,11 +38,12 @@ returns-in_err-step g c =
 pub overflow_add-key : goal.overflow_add-key
 overflow_add-key g c =
     let i = c.loop-i.i in
+    let bit = c.in_ok-bit.bit in
     let walked = g.S.MaskSource.walked c.loop-i.source in
     omega (
       arith,
       written_fits _ c.args.sealed.now (length c.args.key.now) i walked c.loop-i.key c.loop-i.invariant.1 c.requires c.told-sealed
-          c.loop-i-test.true c.trit_at.result c.mask.result c.trit_at.ensures (c.mask.ensures ∙ ap (λ h. h walked) c.loop-i.invariant.0) c.in_ok-bit.bit _ (one_shl (7 - i % 8) 8 (omega arith)),
+          c.loop-i-test.true c.trit_at.result c.mask.result c.trit_at.ensures (c.mask.ensures ∙ ap (λ h. h walked) c.loop-i.invariant.0) bit _ (shl_whole (bool_byte bit) 1 (7 - i % 8) 8 (bit_small bit) (omega arith)),
     )
 
 pub loop-i-preserved : goal.loop-i-preserved
@@ -52,7 +55,7 @@ loop-i-preserved g c =
     let before = walked c.loop-i.source in
     let so_far = c.loop-i.invariant.1 in
     let more = one_more_opened (masks c.args.source.now) c.args.sealed.now (length c.args.key.now) i before c.loop-i.key so_far c.requires c.told-sealed
-    c.loop-i-test.true c.trit_at.result c.mask.result c.trit_at.ensures (c.mask.ensures ∙ ap (λ h. h before) c.loop-i.invariant.0) bit _ (one_shl (7 - i % 8) 8 (omega arith))
+    c.loop-i-test.true c.trit_at.result c.mask.result c.trit_at.ensures (c.mask.ensures ∙ ap (λ h. h before) c.loop-i.invariant.0) bit _ (shl_whole (bool_byte bit) 1 (7 - i % 8) 8 (bit_small bit) (omega arith))
     c.in_ok-bit.ensures (walked c.if-i-end.source) in
     let far : length before ≡ i = ap length (so_far.along c.loop-i-test.true) ∙ so_far.long in
     elim c.if-i-end.branch [
