@@ -7,7 +7,7 @@ use Rattle.std.proofs.lemmas.Bool.{lt-ltb, le-ltb}
 use Rattle.digits.specs.Positional.{packed}
 use Rattle.digits.proofs.Bits.{bit_small, bits_small, bits_of_digits}
 use Rattle.digits.proofs.Packing.{filled_is, unpacked_packed, packed_push, push_fits}
-use Rattle.masks.specs.Sources.{walk_text, walked_bits}
+use Rattle.masks.specs.Sources.{walk_text, walked_bits, IsWalkText}
 use Rattle.masks.specs.Walks.{has_room}
 
 -- the text of a list stands for the list
@@ -57,36 +57,41 @@ module _ (list : List Bool) (bit : Bool) (short : length list ≤ 255) where
       rw (one-add, whole) (push_fits 2 8 32 (length list / 8) (length list % 8) (map bool_byte list) (bool_byte bit) (lit< tt) (omega arith) (omega arith) (omega arith) (bits_small list) (bit_small bit))
 
 -- bytes that are the text of the list that they stand for
-module _ (text : List ℕ) (exact : text ≡ walk_text (walked_bits text)) where
-  length_byte : get_or text 0 0 ≡ length (walked_bits text)
+module _ (text : List ℕ) (is : IsWalkText text) where
+  abbrev walked : List Bool
+  walked = walked_bits text
+
+  length_byte : get_or text 0 0 ≡ length walked
   unfolding walk_text
-  length_byte = ap (λ t. get_or t 0 0) exact
+  length_byte = ap (λ t. get_or t 0 0) is.exact
 
-  pub no_room_left : get_or text 0 0 ≡ 255 → has_room (walked_bits text) ≡ false
-  no_room_left full = let l = length_byte in le-ltb (length (walked_bits text)) 255 (omega arith)
+  pub no_room_left : get_or text 0 0 ≡ 255 → has_room walked ≡ false
+  no_room_left full = let l = length_byte in le-ltb (length walked) 255 (omega arith)
 
-  module _ (short : length (walked_bits text) ≤ 255) (not_full : get_or text 0 0 ≡ 255 → ⊥) where
-    room : length (walked_bits text) < 255
-    room = let l = length_byte in omega arith
+  module _ (not_full : get_or text 0 0 ≡ 255 → ⊥) where
+    room : length walked < 255
+    room = let l = length_byte in let short = is.short in omega arith
 
-    pub room_left : has_room (walked_bits text) ≡ true
-    room_left = lt-ltb (length (walked_bits text)) 255 room
+    pub room_left : has_room walked ≡ true
+    room_left = lt-ltb (length walked) 255 room
 
     module _ (bit : Bool) where
-      pushed_is : pushed text bit ≡ walk_text (walked_bits text ++ bit ∷ [])
-      pushed_is = ap (λ t. pushed t bit) exact ∙ sym (text_push (walked_bits text) bit short)
+      pushed_is : pushed text bit ≡ walk_text (walked ++ bit ∷ [])
+      pushed_is = ap (λ t. pushed t bit) is.exact ∙ sym (text_push walked bit is.short)
 
-      pub walked_bits_pushed : walked_bits (pushed text bit) ≡ walked_bits text ++ bit ∷ []
+      pub walked_bits_pushed : walked_bits (pushed text bit) ≡ walked ++ bit ∷ []
       walked_bits_pushed =
-          let l = length_push (walked_bits text) bit in
+          let l = length_push walked bit in
           let r = room in
-          ap walked_bits pushed_is ∙ walked_bits_text (walked_bits text ++ bit ∷ []) (omega arith)
+          ap walked_bits pushed_is ∙ walked_bits_text (walked ++ bit ∷ []) (omega arith)
 
-      pub pushed_exact : pushed text bit ≡ walk_text (walked_bits (pushed text bit))
-      pushed_exact = pushed_is ∙ ap walk_text (sym walked_bits_pushed)
-
-      pub pushed_short : length (walked_bits (pushed text bit)) ≤ 255
-      pushed_short = let r = room in rw (walked_bits_pushed, length_push (walked_bits text) bit) (omega arith)
+      pub pushed_text : IsWalkText (pushed text bit)
+      pushed_text =
+          let r = room in
+          record {
+            exact = pushed_is ∙ ap walk_text (sym walked_bits_pushed);
+            short = rw (walked_bits_pushed, length_push walked bit) (omega arith);
+          }
 
       pub pushed_fits : byte_with text bit < 256
-      pushed_fits = let Fit : List ℕ → Type 0 = λ t. byte_with t bit < 256 in subst Fit (sym exact) (byte_fits (walked_bits text) bit short)
+      pushed_fits = let Fit : List ℕ → Type 0 = λ t. byte_with t bit < 256 in subst Fit (sym is.exact) (byte_fits walked bit is.short)

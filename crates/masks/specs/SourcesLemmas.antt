@@ -4,11 +4,9 @@ use Rattle.std.proofs.Common.{mod-lt, lit<}
 use Rattle.masks.specs.Sources.{hash_masks, child_node, node_at, tree_masks}
 
 pub hash_masks_small : (secret : List ℕ) (list : List Bool) → hash_masks secret list < 3
-unfolding hash_masks
 hash_masks_small secret list = mod-lt _ (lit< tt)
 
 pub tree_masks_small : (secret : List ℕ) (list : List Bool) → tree_masks secret list < 3
-unfolding tree_masks
 tree_masks_small secret list = mod-lt _ (lit< tt)
 
 pub node_at_push : (root : List ℕ) (list : List Bool) (bit : Bool) → node_at root (list ++ bit ∷ []) ≡ child_node (node_at root list) bit

@@ -1,5 +1,5 @@
 -- The list of bits that a mask source has walked.
-use Rattle.std.specs.Prelude.{ℕ, Bool, cond, List, [], ◌∷◌, ◌++◌, length, Ok, Result, nat_lt}
+use Rattle.std.specs.Prelude.{Bool, cond, List, [], ◌∷◌, ◌++◌, length, Ok, Result, nat_lt}
 use Rattle.keys.specs.Refusals.{asked}
 use Rattle.keys.specs.declared.refusals.Refusal.{Refusal}
 use Rattle.keys.specs.declared.refusals.Refusal.TheVariants.{FullyWalked}

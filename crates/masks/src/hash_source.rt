@@ -1,5 +1,5 @@
-ghost use Rattle.std.specs.Prelude.{◌≡◌, []};
-ghost use Rattle.masks.specs.Sources.{walked_bits, hash_masks};
+ghost use Rattle.std.specs.Prelude.{◌≡◌, ◌≤◌, [], length};
+ghost use Rattle.masks.specs.Sources.{hash_masks};
 ghost use Rattle.masks.specs.SourcesLemmas.{hash_masks_small};
 ghost use Rattle.std.proofs.Common.{rules};
 
@@ -12,13 +12,14 @@ use keys::Refusal;
 pub struct HashSource {
     secret: [u8; 16],
     walk: Walk,
+    ghost short: { length walk ≤ 255 },
 }
 
 impl HashSource {
     /// The source of a secret, with an empty list.
     pub fn new(secret: [u8; 16]) -> HashSource
         ensures masks { hash_masks result.secret ≡ hash_masks secret }
-        ensures list { walked_bits result.walk.text ≡ [] }
+        ensures list { result.walk ≡ [] }
     {
         HashSource {
             secret,
@@ -30,11 +31,11 @@ impl HashSource {
 impl MaskSource for HashSource {
     ghost masks = { λ s. hash_masks s.secret };
 
-    ghost walked = { λ s. walked_bits s.walk.text };
+    ghost walked = { λ s. s.walk };
 
     ghost small = { λ s. hash_masks_small s.secret };
 
-    ghost short = { λ s. s.walk.short };
+    ghost short = { λ s. s.short };
 
     fn restart(&mut self) {
         self.walk = Walk::new();

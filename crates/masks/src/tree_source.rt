@@ -1,5 +1,5 @@
-ghost use Rattle.std.specs.Prelude.{◌≡◌, [], ◌++◌};
-ghost use Rattle.masks.specs.Sources.{walked_bits, child_node, node_at, tree_masks};
+ghost use Rattle.std.specs.Prelude.{◌≡◌, ◌≤◌, [], ◌++◌, length};
+ghost use Rattle.masks.specs.Sources.{child_node, node_at, tree_masks};
 ghost use Rattle.masks.specs.SourcesLemmas.{tree_masks_small};
 ghost use Rattle.std.proofs.Common.{rules, arith};
 
@@ -15,14 +15,15 @@ pub struct TreeSource {
     // the key that the walk has led to
     node: [u8; 16],
     walk: Walk,
-    ghost reached: { node ≡ node_at secret (walked_bits walk.text) },
+    ghost reached: { node ≡ node_at secret walk },
+    ghost short: { length walk ≤ 255 },
 }
 
 impl TreeSource {
     /// The source of a secret, with an empty list.
     pub fn new(secret: [u8; 16]) -> TreeSource
         ensures masks { tree_masks result.secret ≡ tree_masks secret }
-        ensures list { walked_bits result.walk.text ≡ [] }
+        ensures list { result.walk ≡ [] }
     {
         TreeSource {
             secret,
@@ -35,11 +36,11 @@ impl TreeSource {
 impl MaskSource for TreeSource {
     ghost masks = { λ s. tree_masks s.secret };
 
-    ghost walked = { λ s. walked_bits s.walk.text };
+    ghost walked = { λ s. s.walk };
 
     ghost small = { λ s. tree_masks_small s.secret };
 
-    ghost short = { λ s. s.walk.short };
+    ghost short = { λ s. s.short };
 
     fn restart(&mut self) {
         self.node = self.secret;

@@ -1,11 +1,11 @@
 -- The answers of the cipher's calls, once their questions are passed.
-use Rattle.std.proofs.Common.{◌≡◌, ℕ, ◌-◌, ◌*◌, ◌≤◌, Bool, true, ◌&&◌, eqb, leb, List, [], ◌++◌, length, take, drop, Some, None, Ok, Option, Result, sym, ap, ◌∙◌, arith}
+use Rattle.std.proofs.Common.{◌≡◌, ℕ, ◌*◌, ◌≤◌, Bool, true, ◌&&◌, eqb, leb, List, [], ◌++◌, length, take, drop, Some, None, Ok, Option, Result, sym, ap, ◌∙◌, arith}
 use Rattle.std.proofs.lemmas.List.{take_at, length-append}
-use Rattle.std.proofs.lemmas.Bool.{and_from, le-leb, eq-eqb}
+use Rattle.std.proofs.lemmas.Bool.{and_from, le-leb, leb-true, eq-eqb}
 use Rattle.digits.specs.Positional.{bits, trits, all_zero}
 use Rattle.keys.specs.Kinds.{Served, served, written, read_answer, value_asked}
 use Rattle.keys.specs.Refusals.{asked}
-use Rattle.keys.specs.Questions.{test_from_served, asked_yes, asked_within, written_within, value_from_ok}
+use Rattle.keys.specs.Questions.{served_from_test, test_from_served, asked_yes, asked_ok, asked_within, written_within, value_from_ok}
 use Rattle.sealing.specs.declared.records.SealedKey.{SealedKey}
 use Rattle.sealing.specs.Masking.{masked, packed_trits, unmasked}
 use Rattle.sealing.specs.Sealed.{sealed, cipher_asked, seal_answer, packed_length, record_of, trits_only, take_in_answer}
@@ -17,6 +17,13 @@ pub cipher_asked_yes : {X : Type 0} (w scratch : ℕ) (next : Result X Refusal) 
 cipher_asked_yes w scratch next s room =
     asked_yes (served w) KindWidth (asked (leb 32 scratch) ShortBuffer next) (test_from_served w s) ∙ asked_yes (leb 32 scratch) ShortBuffer next (le-leb 32 scratch room)
 
+-- what was answered at the end was asked with a yes to both
+pub cipher_asked_ok : {X : Type 0} (w scratch : ℕ) (next : Result X Refusal) (x : X) → cipher_asked w scratch next ≡ Ok x → Served w × (32 ≤ scratch) × (next ≡ Ok x)
+cipher_asked_ok w scratch next x e =
+    let first = asked_ok (served w) KindWidth _ x e in
+    let second = asked_ok (leb 32 scratch) ShortBuffer next x first.1 in
+    (served_from_test w first.0, leb-true 32 scratch second.0, second.1)
+
 -- the key bytes stand in front of a written scratch
 written_front : (w : ℕ) (key before : List ℕ) → Served w → w ≤ length before → length key ≡ w → take w (written w key before) ≡ key
 written_front w key before s room long =
@@ -24,18 +31,16 @@ written_front w key before s room long =
     ∙ take_at key (drop w before) w long
 
 -- the sealed bytes of what the kind wrote into the scratch
-pub seals_what_was_written : (f : List Bool → ℕ) (w width : ℕ) (key scratch out bytes : List ℕ) → width ≡ w → Served w → 32 ≤ length scratch → length key ≡ w
-    → out ≡ written w key scratch → ◌≡◌ {A = Result (List ℕ) Refusal} (Ok bytes) (Ok (packed_trits (masked f [] (bits (take (width - 0) out)))))
-    → ◌≡◌ {A = Result SealedKey Refusal} (Ok (record { width = width; bytes = bytes })) (seal_answer f w (length scratch) key)
+pub seals_what_was_written : (f : List Bool → ℕ) (w : ℕ) (key scratch out bytes : List ℕ) → Served w → 32 ≤ length scratch → length key ≡ w → out ≡ written w key scratch
+    → ◌≡◌ {A = Result (List ℕ) Refusal} (Ok bytes) (Ok (packed_trits (masked f [] (bits (take w out)))))
+    → ◌≡◌ {A = Result SealedKey Refusal} (Ok (record { width = w; bytes = bytes })) (seal_answer f w (length scratch) key)
 unfolding sealed
-seals_what_was_written f w width key scratch out bytes width_is s room long out_is bytes_are =
+seals_what_was_written f w key scratch out bytes s room long out_is bytes_are =
     let there : w ≤ length scratch = let upper = s.1 in omega arith in
-    let same : width - 0 ≡ w = omega arith in
-    let front : take (width - 0) out ≡ key = ap (take (width - 0)) out_is ∙ ap (λ n. take n (written w key scratch)) same ∙ written_front w key scratch s there long in
-    let sealed_bytes : bytes ≡ packed_trits (masked f [] (bits key)) = value_from_ok bytes _ bytes_are ∙ ap (λ k. packed_trits (masked f [] (bits k))) front in
-    ap (λ bs. Ok (record { width = width; bytes = bs })) sealed_bytes
-    ∙ ap (λ n. Ok (record { width = n; bytes = packed_trits (masked f [] (bits key)) })) (width_is ∙ sym long)
-    ∙ sym (cipher_asked_yes w (length scratch) (Ok (sealed f key)) s room)
+    let front : take w out ≡ key = ap (take w) out_is ∙ written_front w key scratch s there long in
+    let sealed_so : ◌≡◌ {A = SealedKey} (record { width = w; bytes = bytes }) (record { width = length key; bytes = packed_trits (masked f [] (bits key)) }) =
+    λ i. record { width = sym long i; bytes = (value_from_ok bytes _ bytes_are ∙ ap (λ k. packed_trits (masked f [] (bits k))) front) i } in
+    ap (λ k. Ok k) sealed_so ∙ sym (cipher_asked_yes w (length scratch) _ s room)
 
 pub take_in_answer_is : (w : ℕ) (packed : List ℕ) → Served w → length packed ≡ packed_length w → trits_only packed ≡ true → all_zero (drop (8 * w) (trits packed)) ≡ true
     → take_in_answer w packed ≡ Ok (record_of w packed)

@@ -1,22 +1,22 @@
 -- Opening gives back exactly what was sealed.
-use Rattle.std.proofs.Common.{◌≡◌, ℕ, ◌+◌, ◌-◌, ◌*◌, ◌%◌, ◌<◌, ◌≤◌, Bool, true, false, eqb, leb, List, [], ◌∷◌, ◌++◌, map, length, take, replicate, Some, None, Ok, Option, sym, refl, ap, ◌∙◌, ⊎_elim, arith, lit<}
+use Rattle.std.proofs.Common.{◌≡◌, ℕ, ◌+◌, ◌-◌, ◌*◌, ◌%◌, ◌<◌, ◌≤◌, Bool, true, false, eqb, List, [], ◌∷◌, ◌++◌, map, length, take, replicate, Some, None, Ok, Option, sym, refl, ap, ◌∙◌, ⊎_elim, arith, lit<}
 use mir.Val.{bool_byte}
 use Rattle.std.proofs.lemmas.List.{append_assoc, append-nil, length-take-le, take_at}
 use Rattle.std.proofs.lemmas.Bool.{cond-true, cond-false, eq-eqb, ne_eqb, eqb-true, cases_Bool}
 use Rattle.digits.specs.Positional.{bits, trits}
 use Rattle.digits.proofs.Bits.{bits_of_packed, bits_small, bytes_of_bits}
 use Rattle.digits.proofs.Packing.{length_bits, length_packed, length_unpacked, packed_lt}
-use Rattle.keys.specs.Kinds.{Bytes, Served, served, value_asked}
-use Rattle.keys.specs.Questions.{asked_ok, served_from_test}
+use Rattle.keys.specs.Kinds.{Bytes, Served, value_asked}
+use Rattle.keys.specs.Questions.{asked_ok}
 use Rattle.sealing.specs.declared.records.SealedKey.{SealedKey}
 use Rattle.sealing.specs.Masking.{masked, packed_trits, unmasked}
 use Rattle.sealing.specs.Sealed.{sealed, TakenIn}
 use Rattle.sealing.specs.Opened.{bytes_of, bits_asked, open_answer}
-use Rattle.sealing.proofs.Answering.{open_answer_is}
+use Rattle.sealing.proofs.Answering.{cipher_asked_ok, open_answer_is}
 use Rattle.sealing.specs.MaskingLemmas.{length_masked}
 use Rattle.sealing.specs.SealedOrder.{sealed_trits}
 use Rattle.sealing.proofs.TakenIn.{taken_in_length, taken_in_repacks}
-use Rattle.keys.specs.declared.refusals.Refusal.TheVariants.{KindWidth, ShortBuffer, OtherWidth}
+use Rattle.keys.specs.declared.refusals.Refusal.TheVariants.{OtherWidth}
 
 module _ (f : List Bool → ℕ) (small : (list : List Bool) → f list < 3) where
   -- the trits of bits give the bits back
@@ -70,16 +70,14 @@ module _ (f : List Bool → ℕ) (small : (list : List Bool) → f list < 3) whe
 
     module _ (w : ℕ) (k : SealedKey) (v : V) (told : open_answer f w decode scratch k ≡ Ok v) where
       pub opened_served : Served w
-      opened_served = served_from_test w (asked_ok (served w) KindWidth _ v told).0
+      opened_served = (cipher_asked_ok w scratch _ v told).0
 
       abbrev found : Option (List Bool)
       found = unmasked f [] (take (8 * w) (trits k.bytes))
 
       opened_rest : (eqb k.width w ≡ true) × (bits_asked found (λ bs. value_asked (decode (bytes_of w bs))) ≡ Ok v)
       opened_rest =
-          let first = asked_ok (served w) KindWidth _ v told in
-          let second = asked_ok (leb 32 scratch) ShortBuffer _ v first.1 in
-          asked_ok (eqb k.width w) OtherWidth _ v second.1
+          asked_ok (eqb k.width w) OtherWidth _ v (cipher_asked_ok w scratch _ v told).2
 
       from_bits : (o : Option (List Bool)) → bits_asked o (λ bs. value_asked (decode (bytes_of w bs))) ≡ Ok v → (bs : List Bool) × (o ≡ Some bs) × (decode (bytes_of w bs) ≡ Some v)
       from_bits None e = let z : ◌≡◌ {A = ℕ} 0 1 = cc in absurd (omega arith)

@@ -1,25 +1,25 @@
 -- The promises of sealing and opening follow from their answers and a kind's laws.
-use Rattle.std.proofs.Common.{◌≡◌, ℕ, ◌<◌, Bool, leb, List, length, Some, Ok, Option, Result, Ordering, sym, ap, ◌∙◌, arith}
+use Rattle.std.proofs.Common.{◌≡◌, ℕ, ◌<◌, Bool, List, length, Some, Ok, Option, Result, Ordering, sym, ap, ◌∙◌, arith}
 use Rattle.digits.specs.Orders.{row_order}
 use Rattle.digits.specs.Positional.{bits}
-use Rattle.keys.specs.Kinds.{Bytes, Served, served, value_asked}
-use Rattle.keys.specs.Refusals.{asked}
-use Rattle.keys.specs.Questions.{asked_ok, served_from_test}
+use Rattle.keys.specs.Kinds.{Bytes, Served, value_asked}
+use Rattle.keys.specs.Questions.{value_from_ok}
+use Rattle.sealing.specs.declared.records.Comparison.{Comparison}
 use Rattle.sealing.specs.declared.records.SealedKey.{SealedKey}
 use Rattle.sealing.specs.Compared.{decided, compared, first_different_bit}
 use Rattle.sealing.specs.Opened.{open_answer}
 use Rattle.sealing.specs.Promises.{SealsInOrder, OpensExactly, ComparesAsSealed}
 use Rattle.sealing.specs.Sealed.{sealed, seal_answer}
+use Rattle.sealing.proofs.Answering.{cipher_asked_ok}
 use Rattle.sealing.proofs.Opening.{opens_sealed, opened_seals, opened_served}
 use Rattle.sealing.specs.SealedOrder.{compares_as_bytes}
 use Rattle.sealing.proofs.TakenIn.{sealed_taken_in}
 use Rattle.keys.specs.declared.refusals.Refusal.{Refusal}
-use Rattle.keys.specs.declared.refusals.Refusal.TheVariants.{KindWidth, ShortBuffer}
 
-pub compares_as_sealed : (a b : SealedKey) → ComparesAsSealed a b (compared a b)
-compares_as_sealed a b f u v u_bytes v_bytes u_served long a_is b_is =
+pub compares_as_sealed : (a b : SealedKey) (answer : Comparison) → answer ≡ compared a b → ComparesAsSealed a b answer
+compares_as_sealed a b answer told f u v u_bytes v_bytes u_served long a_is b_is =
     let v_served : Served (length v) = (let lower = u_served.0 in omega arith, let upper = u_served.1 in omega arith) in
-    ap (λ k. compared k b) a_is ∙ ap (compared (sealed f u)) b_is ∙ compares_as_bytes f u v u_bytes v_bytes u_served v_served long
+    told ∙ ap (λ k. compared k b) a_is ∙ ap (compared (sealed f u)) b_is ∙ compares_as_bytes f u v u_bytes v_bytes u_served v_served long
 
 module _ {V : Type 0} (width : ℕ) (order : V → V → Ordering) (lawful : V → Type 0) (encode : V → List ℕ) (f : List Bool → ℕ)
     (wide : (v : V) → lawful v → Served width → length (encode v) ≡ width)
@@ -31,10 +31,8 @@ module _ {V : Type 0} (width : ℕ) (order : V → V → Ordering) (lawful : V �
       (scratch : ℕ) (v : V) (v_lawful : lawful v) (answer : Result SealedKey Refusal) (told : answer ≡ seal_answer f width scratch (encode v)) where
     sealed_so : (k : SealedKey) → answer ≡ Ok k → Served width × (k ≡ sealed f (encode v))
     sealed_so k e =
-        let first = asked_ok (served width) KindWidth (asked (leb 32 scratch) ShortBuffer (Ok (sealed f (encode v)))) k (sym told ∙ e) in
-        let second = asked_ok (leb 32 scratch) ShortBuffer (Ok (sealed f (encode v))) k first.1 in
-        let same : k ≡ sealed f (encode v) = cc second.1 in
-        (served_from_test width first.0, same)
+        let asked = cipher_asked_ok width scratch _ k (sym told ∙ e) in
+        (asked.0, sym (value_from_ok _ _ asked.2))
 
     pub seals_in_order : SealsInOrder order lawful encode f v answer
     seals_in_order =

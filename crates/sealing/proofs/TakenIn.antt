@@ -1,7 +1,7 @@
 -- Taking in sealed keys: what is sealed can be taken in, and packing the trits of what was taken in gives it again.
 use Rattle.std.proofs.Common.{◌≡◌, ℕ, zero, suc, ◌+◌, ◌-◌, ◌*◌, ◌<◌, ◌≤◌, Bool, true, ◌&&◌, eqb, leb, List, [], ◌∷◌, ◌++◌, length, take, drop, replicate, Ok, sym, refl, ap, ◌∙◌, arith, lit<}
 use Rattle.std.specs.List.{AllByRecursion}
-use Rattle.std.proofs.ByRecursion.{All-append, All-take}
+use Rattle.digits.proofs.Every.{all_append, all_take}
 use Rattle.std.proofs.lemmas.List.{append-nil, length-append, length-replicate, length-take-le, drop_all, drop-append-le, drop_at, drop-take, take-append-drop, take-replicate, replicate-append-replicate}
 use Rattle.std.proofs.lemmas.Bool.{and_from, and_parts, eqb-true, le-leb, leb-true}
 use Rattle.digits.specs.Positional.{bits, trits, packed, all_zero}
@@ -57,7 +57,7 @@ module _ (f : List Bool → ℕ) (key : List ℕ) (s : Served (length key)) wher
   front_long = let size = length_packed 3 5 52 ts in length-take-le (packed_length w) bs (let upper = s.1 in omega arith)
 
   front_trits : trits_only (take (packed_length w) bs) ≡ true
-  front_trits = trits_only_of (take (packed_length w) bs) (All-take (λ b. b < 243) (packed_length w) bs (packed_lt 3 5 52 ts (lit< tt) (masked_lt f [] (bits key))))
+  front_trits = trits_only_of (take (packed_length w) bs) (all_take (λ b. b < 243) (packed_length w) bs (packed_lt 3 5 52 ts (lit< tt) (masked_lt f [] (bits key))))
 
   pads : all_zero (drop (8 * w) (trits (take (packed_length w) bs))) ≡ true
   unfolding sealed packed_trits
@@ -116,7 +116,7 @@ module _ (w : ℕ) (ps : List ℕ) (k : SealedKey) (told : take_in_answer w ps �
       let upper = (served_from_test w answers.0).1 in
       let long = answers.1 in
       let bytes = ps ++ replicate (52 - length ps) 0 in
-      let small : AllByRecursion (λ b. b < 243) bytes = All-append (λ b. b < 243) ps (replicate (52 - length ps) 0) (trits_only_facts ps answers.2) (zeros_small (52 - length ps)) in
+      let small : AllByRecursion (λ b. b < 243) bytes = all_append (λ b. b < 243) ps (replicate (52 - length ps) 0) (trits_only_facts ps answers.2) (zeros_small (52 - length ps)) in
       let size = length_unpacked 3 5 ps in
       let split : trits bytes ≡ trits ps ++ replicate ((52 - length ps) * 5) 0 = unpacked_append 3 5 ps (replicate (52 - length ps) 0) ∙ ap (λ zs. trits ps ++ zs) (unpacked_zeros 3 5 (52 - length ps)) in
       let within : 8 * w ≤ length (trits ps) = omega arith in

@@ -64,22 +64,22 @@ module _ (f : List Bool → ℕ) (sealed : List ℕ) (w : ℕ) where
           (at_trit ∙ none.0, none.1)
 
       -- a bit found: it is added, by its weight, to the byte that it falls into
-      module _ (bit : Bool) (weight : ℕ) (weight_is : weight ≡ 2 ^ (8 - 1 - i % 8)) where
+      module _ (bit : Bool) (weighed : ℕ) (weighed_is : weighed ≡ bool_byte bit * 2 ^ (8 - 1 - i % 8)) where
         digits_long : length (map bool_byte so_far.found) ≡ i / 8 * 8 + i % 8
         digits_long = length-map so_far.found bool_byte ∙ so_far.long ∙ omega arith
 
-        pub written_fits : get_or key (i / 8) 0 + bool_byte bit * weight < 256
+        pub written_fits : get_or key (i / 8) 0 + weighed < 256
         written_fits =
-            rw (so_far.written, weight_is)
+            rw (so_far.written, weighed_is)
             (push_fits 2 8 w (i / 8) (i % 8) (map bool_byte so_far.found) (bool_byte bit) (lit< tt) (omega arith) (omega arith) digits_long (bits_small so_far.found) (bit_small bit))
 
-        writes_next : set key (i / 8) (get_or key (i / 8) 0 + bool_byte bit * weight) ≡ bytes_of w (so_far.found ++ bit ∷ [])
+        writes_next : set key (i / 8) (get_or key (i / 8) 0 + weighed) ≡ bytes_of w (so_far.found ++ bit ∷ [])
         writes_next =
-            rw (so_far.written, weight_is)
+            rw (so_far.written, weighed_is)
             (sym (ap (packed 2 8 w) (map_push bool_byte so_far.found bit) ∙ packed_push 2 8 w (i / 8) (i % 8) (map bool_byte so_far.found) (bool_byte bit) (omega arith) (omega arith) digits_long))
 
         pub one_more_opened : Ok bit ≡ trit_answer trit mask → (after : List Bool) → (i + 1 < 8 * w → after ≡ walked ++ bit ∷ [])
-            → OpenedSoFar f sealed w (i + 1) after (set key (i / 8) (get_or key (i / 8) 0 + bool_byte bit * weight))
+            → OpenedSoFar f sealed w (i + 1) after (set key (i / 8) (get_or key (i / 8) 0 + weighed))
         one_more_opened told after stepped =
             record {
               found = so_far.found ++ bit ∷ [];

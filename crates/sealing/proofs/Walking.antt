@@ -12,7 +12,7 @@ module _ (walked : List Bool) (room : length walked < 255) where
   pub step_granted : step_answer walked ≡ Ok tt
   step_granted = cond-true (has_room walked) (Ok tt) (Err FullyWalked) (lt-ltb (length walked) 255 room)
 
-  pub never_refused : (e : Refusal) → numbered (Err e) ≡ step_answer walked → ⊥
+  pub never_refused : (e : Refusal) → Err e ≡ step_answer walked → ⊥
   never_refused e told =
       let granted = step_granted in
       let z : ◌≡◌ {A = ℕ} 0 1 = cc in omega arith

@@ -1,5 +1,5 @@
 -- Comparing sealed keys.
-use Rattle.std.specs.Prelude.{ℕ, suc, ◌+◌, ◌%◌, Bool, true, false, cond, List, [], ◌∷◌, ◌==◌, nat_lt}
+use Rattle.std.specs.Prelude.{◌≡◌, ℕ, suc, ◌+◌, ◌%◌, ◌<◌, ◌≤◌, Bool, true, false, cond, List, [], ◌∷◌, Option, MatchOption, slice_index, ◌==◌, ◌≢◌, nat_lt}
 use Rattle.std.specs.declared.cmp.Ordering.TheVariants.{Less, Equal, Greater}
 use Rattle.std.specs.declared.cmp.Ordering.{Ordering}
 use Rattle.digits.specs.Positional.{trits}
@@ -17,6 +17,12 @@ trits_compared place [] ys = decided Equal 0
 trits_compared place (x ∷ xs) [] = decided Equal 0
 trits_compared place (x ∷ xs) (y ∷ ys) =
     cond (x == y) (trits_compared (suc place) xs ys) (decided (cond (y == (x + 1) % 3) Less Greater) place)
+
+-- the first place from `low` on and below `high`, from 0, at which two rows differ
+abbrev pub FirstDifference : List ℕ → List ℕ → ℕ → ℕ → Option ℕ → Type 0
+FirstDifference xs ys low high found =
+    MatchOption found ((k : ℕ) → low ≤ k → k < high → slice_index xs k ≡ slice_index ys k)
+    (λ place. (low ≤ place) × (place < high) × (slice_index xs place ≢ slice_index ys place) × ((k : ℕ) → low ≤ k → k < place → slice_index xs k ≡ slice_index ys k))
 
 -- a narrower key is less than a wider one, at place 0
 abbrev pub compared : SealedKey → SealedKey → Comparison

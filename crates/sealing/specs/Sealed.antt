@@ -1,5 +1,6 @@
 -- Sealed keys as records, and what sealing and taking in answer.
-use Rattle.std.specs.Prelude.{◌≡◌, ℕ, ◌+◌, ◌-◌, ◌*◌, ◌/◌, ◌<◌, Bool, true, ◌&&◌, List, [], ◌∷◌, ◌++◌, length, drop, replicate, Ok, Result, ◌==◌, nat_le}
+use Rattle.std.specs.Prelude.{◌≡◌, ℕ, ◌+◌, ◌-◌, ◌*◌, ◌/◌, ◌<◌, Bool, ◌&&◌, List, [], ◌++◌, length, drop, replicate, Ok, Result, ◌==◌, nat_le}
+use Rattle.std.specs.List.{list_all}
 use Rattle.digits.specs.Positional.{bits, trits, all_zero}
 use Rattle.keys.specs.Refusals.{asked}
 use Rattle.keys.specs.Kinds.{Bytes, Served, served}
@@ -30,8 +31,7 @@ record_of w packed = record { width = w; bytes = packed ++ replicate (52 - lengt
 
 -- five trits make at most 242
 abbrev pub trits_only : List ℕ → Bool
-trits_only [] = true
-trits_only (b ∷ bs) = nat_le b 242 && trits_only bs
+trits_only = list_all (λ b. nat_le b 242)
 
 -- what taking in answers. 3: is the width 1 to 32 and the length its packed length? 4: are bytes at most 242 and pad trits 0?
 abbrev pub take_in_answer : ℕ → List ℕ → Result SealedKey Refusal

@@ -9,7 +9,9 @@ use Rattle.std.proofs.lemmas.Bool.{cases_order, cond-true, cond-false, eq-eqb, n
 use Rattle.digits.specs.Orders.{number_order, row_order}
 use Rattle.digits.specs.Positional.{bits, trits}
 use Rattle.digits.proofs.Bits.{bits_order}
-use Rattle.digits.proofs.Ordering.{order_less, order_same, order_greater, number_order_flips, number_order_chains, number_order_same, row_order_flips, row_order_chains, row_order_same, then_flips, then_chains, then_same}
+use Rattle.digits.proofs.Ordering.{order_less, order_same, order_greater, then_flips, then_chains, then_same}
+use Rattle.std.proofs.lemmas.Cmp.{nat_cmp_total, nat_list_cmp_total}
+use Rattle.std.specs.FinMap.{nat_cmp-IsAntisymmetric, slice_cmp-IsAntisymmetric}
 use Rattle.digits.proofs.Packing.{filled_is, unpacked_packed, length_bits}
 use Rattle.keys.specs.Kinds.{Bytes, Served}
 use Rattle.sealing.specs.declared.records.SealedKey.{SealedKey}
@@ -112,7 +114,7 @@ module _ (f : List Bool → ℕ) where
   pub sealed_flips : (a b : SealedKey) → SealedUnder f a → SealedUnder f b → (compared a b).order ≡ ordering_reverse (compared b a).order
   sealed_flips a b p q =
       order_is a b p q
-      ∙ then_flips (number_order (length p.key) (length q.key)) (row_order p.key q.key) (number_order (length q.key) (length p.key)) (row_order q.key p.key) (number_order_flips (length p.key) (length q.key)) (row_order_flips p.key q.key)
+      ∙ then_flips (number_order (length p.key) (length q.key)) (row_order p.key q.key) (number_order (length q.key) (length p.key)) (row_order q.key p.key) (nat_cmp_total.antisymm (length p.key) (length q.key)) (nat_list_cmp_total.antisymm p.key q.key)
       ∙ ap ordering_reverse (sym (order_is b a q p))
 
   pub sealed_chains : (a b c : SealedKey) → SealedUnder f a → SealedUnder f b → SealedUnder f c → (compared a b).order ≡ Less → (compared b c).order ≡ Less → (compared a c).order ≡ Less
@@ -122,10 +124,10 @@ module _ (f : List Bool → ℕ) where
       let lr = length r.key in
       order_is a c p r
       ∙ then_chains (number_order lp lq) (number_order lq lr) (number_order lp lr) (row_order p.key q.key) (row_order q.key r.key) (row_order p.key r.key)
-      (number_order_chains lp lq lr) (λ e. ap (λ n. number_order n lr) (number_order_same lp lq e)) (λ e. ap (number_order lp) (sym (number_order_same lq lr e)))
-      (row_order_chains p.key q.key r.key) (sym (order_is a b p q) ∙ ab) (sym (order_is b c q r) ∙ bc)
+      (nat_cmp_total.trans lp lq lr) (λ e. ap (λ n. number_order n lr) (nat_cmp-IsAntisymmetric lp lq e)) (λ e. ap (number_order lp) (sym (nat_cmp-IsAntisymmetric lq lr e)))
+      (nat_list_cmp_total.trans p.key q.key r.key) (sym (order_is a b p q) ∙ ab) (sym (order_is b c q r) ∙ bc)
 
   pub sealed_same : (a b : SealedKey) → SealedUnder f a → SealedUnder f b → (compared a b).order ≡ Equal → a ≡ b
   sealed_same a b p q e =
       let both = then_same (number_order (length p.key) (length q.key)) (row_order p.key q.key) (sym (order_is a b p q) ∙ e) in
-      p.is ∙ ap (sealed f) (row_order_same p.key q.key both.1) ∙ sym q.is
+      p.is ∙ ap (sealed f) (slice_cmp-IsAntisymmetric nat_cmp-IsAntisymmetric p.key q.key both.1) ∙ sym q.is

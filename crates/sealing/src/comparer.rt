@@ -1,69 +1,60 @@
-ghost use Rattle.std.specs.Prelude.{◌≡◌, ℕ, ◌+◌, ◌%◌, ◌<◌, Bool, List, if◌then◌else◌, nat_eq};
+ghost use Rattle.std.specs.Prelude.{◌≡◌, ℕ, ◌+◌, ◌*◌, ◌%◌, ◌<◌, Bool, List, if◌then◌else◌, nat_eq};
 ghost use Rattle.std.specs.declared.cmp.Ordering.TheVariants.{Less, Greater};
 ghost use Rattle.digits.specs.Positional.{trits};
-ghost use Rattle.sealing.specs.Compared.{compared, trits_compared};
+ghost use Rattle.sealing.specs.Compared.{compared, trits_compared, FirstDifference};
 ghost use Rattle.sealing.specs.Promises.{ComparesAsSealed};
 ghost use Rattle.sealing.specs.Sealed.{FitsRecord, SealedUnder};
 ghost use Rattle.sealing.specs.SealedOrder.{sealed_flips, sealed_chains, sealed_same};
 
+use crate::records::PACKED;
 use crate::{Comparison, SealedKey};
 use digits::trit_at;
 use keys::{OrderedKey, are_bytes};
 use std::cmp::Ordering;
 
-/// Compares two sealed keys, without any secret.
+/// Compares two sealed keys by width, and then by trits. It needs no secret.
 pub fn compare(a: &SealedKey, b: &SealedKey) -> Comparison
     ensures answer { result ≡ compared a.now b.now }
     ensures as_the_values { ComparesAsSealed a.now b.now result }
 {
-    compare_keys(a, b)
+    match a.width.cmp(&b.width) {
+        Ordering::Equal => compare_trits(&a.bytes, &b.bytes),
+        order => Comparison { order, place: 0 },
+    }
 }
 
-// By width, and then by trits.
-fn compare_keys(a: &SealedKey, b: &SealedKey) -> Comparison
-    ensures { result ≡ compared a.now b.now }
-{
-    if a.width < b.width {
-        return Comparison {
-            order: Ordering::Less,
-            place: 0,
-        };
-    }
-    if b.width < a.width {
-        return Comparison {
-            order: Ordering::Greater,
-            place: 0,
-        };
-    }
-    compare_trits(&a.bytes, &b.bytes)
-}
-
-// Looks for the first different trit, byte by byte and then trit by trit.
-fn compare_trits(a: &[u8; 52], b: &[u8; 52]) -> Comparison
+// By the first different trit.
+fn compare_trits(a: &[u8; PACKED], b: &[u8; PACKED]) -> Comparison
     ensures { result ≡ trits_compared 1 (trits a.now) (trits b.now) }
 {
-    'search: {
-        for i in 0..52usize {
-            if a[i] == b[i] {
-                continue;
-            }
-            for j in 0..5usize {
-                let place = 5 * i + j;
-                let x = trit_at(a, place);
-                let y = trit_at(b, place);
-                if x != y {
-                    break 'search Comparison {
-                        order: order_of_trits(x, y),
-                        place: place as u16 + 1,
-                    };
-                }
-            }
-        }
-        Comparison {
+    match different_trit(a, b) {
+        Some(place) => Comparison {
+            order: order_of_trits(trit_at(a, place), trit_at(b, place)),
+            place: place as u16 + 1,
+        },
+        None => Comparison {
             order: Ordering::Equal,
             place: 0,
-        }
+        },
     }
+}
+
+// The first place of a different trit, from 0.
+fn different_trit(a: &[u8; PACKED], b: &[u8; PACKED]) -> Option<usize>
+    ensures { FirstDifference (trits a.now) (trits b.now) 0 260 result }
+{
+    (0..PACKED).find_map(|i| different_trit_of_byte(a, b, i))
+}
+
+// The same within byte `i`. Equal bytes, which have equal trits, are passed over whole.
+fn different_trit_of_byte(a: &[u8; PACKED], b: &[u8; PACKED], i: usize) -> Option<usize>
+    requires { i < 52 }
+    ensures { FirstDifference (trits a.now) (trits b.now) (5 * i) (5 * i + 5) result }
+{
+    if a[i] == b[i] {
+        return None;
+    }
+    (5 * i..5 * i + 5).find(|place| trit_at(a, *place) != trit_at(b, *place))
 }
 
 // Which of two different trits is the lesser: the one that the other follows, modulo 3.
@@ -94,7 +85,7 @@ impl OrderedKey for SealedKey {
     ghost same = { λ f a b p q. sealed_same f a b p q };
 
     fn compare(&self, other: &SealedKey) -> Ordering {
-        compare_keys(self, other).order
+        compare(self, other).order
     }
 
     fn is_lawful(&self) {

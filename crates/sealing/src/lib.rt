@@ -4,9 +4,10 @@
 #![tactic(auto)]
 
 mod comparer;
+mod guards;
 mod opener;
+mod questions;
 mod records;
-mod scratch;
 mod sealer;
 mod taker;
 

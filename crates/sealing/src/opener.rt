@@ -5,7 +5,9 @@ ghost use Rattle.sealing.specs.Opened.{open_answer, found_answer, FoundLeft, tri
 ghost use Rattle.sealing.specs.Promises.{OpensExactly};
 
 use crate::SealedKey;
-use crate::scratch::Scratch;
+use crate::guards::{Scratch, Walkway};
+use crate::questions::asked_width;
+use crate::records::PACKED;
 use digits::trit_at;
 use keys::{KeyKind, Refusal};
 use masks::MaskSource;
@@ -22,54 +24,34 @@ pub fn open<S: MaskSource, K: KeyKind>(
     ensures same_masks { S.masks source.new ≡ S.masks source.old }
     ensures restarted { S.walked source.new ≡ [] }
 {
-    let guard = Scratch(scratch);
-    source.restart();
-    let answer = open_key(source, key, guard.0);
-    source.restart(); // whatever the answer is
-    answer
-}
-
-// The questions that opening asks, and then the opening itself.
-fn open_key<S: MaskSource, K: KeyKind>(
-    source: &mut S,
-    key: &SealedKey,
-    scratch: &mut [u8],
-) -> Result<K, Refusal>
-    requires { S.walked source.old ≡ [] }
-    ensures answer { result ≡ open_answer (S.masks source.old) K.KeyKind.width K.KeyKind.decode (length scratch.old) key.now }
-    ensures same_masks { S.masks source.new ≡ S.masks source.old }
-{
-    let width = K::width();
-    if width < 1 || width > 32 {
-        return Err(Refusal::KindWidth);
-    }
-    if scratch.len() < 32 {
-        return Err(Refusal::ShortBuffer);
-    }
+    let source = Walkway(source);
+    let scratch = Scratch(scratch);
+    let width = asked_width::<K>(scratch.0.len())?;
     if key.width != width {
         return Err(Refusal::OtherWidth);
     }
-    open_bytes(source, &key.bytes, &mut scratch[0..width as usize])?;
-    K::read(scratch)
+    let bytes = &mut *scratch.0;
+    open_bytes(source.0, &key.bytes, &mut bytes[..width as usize])?;
+    K::read(bytes)
 }
 
 // Finds the bits behind the trits and writes them into the key bytes. The source walks along, the last bit excepted.
 fn open_bytes<S: MaskSource>(
     source: &mut S,
-    sealed: &[u8; 52],
+    sealed: &[u8; PACKED],
     key: &mut [u8],
 ) -> Result<(), Refusal>
-    requires start { S.walked source.old ≡ [] }
-    requires served { length key.old ≤ 32 }
+    requires { length key.old ≤ 32 }
     ensures answer { result ≡ found_answer (unmasked (S.masks source.old) [] (take (8 * length key.old) (trits sealed.now))) }
     ensures left { FoundLeft (unmasked (S.masks source.old) [] (take (8 * length key.old) (trits sealed.now))) key.new }
     ensures same_masks { S.masks source.new ≡ S.masks source.old }
 {
-    key.fill(0);
+    source.restart();
     let end = 8 * key.len();
+    key.fill(0);
     for i in 0..end {
         let bit = bit_behind(trit_at(sealed, i), source.mask())?;
-        key[i / 8] += bit as u8 * (1 << (7 - i % 8));
+        key[i / 8] += (bit as u8) << (7 - i % 8);
         if i + 1 < end {
             source.step(bit)?;
         }

@@ -1,15 +1,18 @@
 use std::cmp::Ordering;
 
+// How many bytes the trits of the widest key take: 256 trits, five to a byte.
+pub(crate) const PACKED: usize = 52;
+
 /// The trits of a value's key bytes, each bit masked, five trits to a byte. Only sealing and taking in make one;
-/// the bytes behind the packed ones are zero.
+/// the bytes behind the packed ones are zero. A key is a plain value of fixed size, so that books can keep it in lent memory.
 #[derive(Clone, Copy)]
 pub struct SealedKey {
     pub(crate) width: u8,
-    pub(crate) bytes: [u8; 52],
+    pub(crate) bytes: [u8; PACKED],
 }
 
 /// How two sealed keys compare, and the place of the first different trit, from 1; 0 where no trit decides.
-#[derive(Clone, Copy)]
+#[derive(Clone, Copy, PartialEq, Eq, Debug)]
 pub struct Comparison {
     pub order: Ordering,
     pub place: u16,

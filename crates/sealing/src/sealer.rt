@@ -5,7 +5,9 @@ ghost use Rattle.sealing.specs.Promises.{SealsInOrder};
 ghost use Rattle.sealing.specs.Sealed.{seal_answer};
 
 use crate::SealedKey;
-use crate::scratch::Scratch;
+use crate::guards::{Scratch, Walkway};
+use crate::questions::asked_width;
+use crate::records::PACKED;
 use digits::{TRIT_WEIGHTS, bit_at};
 use keys::{KeyKind, Refusal};
 use masks::MaskSource;
@@ -22,46 +24,25 @@ pub fn seal<S: MaskSource, K: KeyKind>(
     ensures same_masks { S.masks source.new ≡ S.masks source.old }
     ensures restarted { S.walked source.new ≡ [] }
 {
-    let guard = Scratch(scratch);
-    source.restart();
+    let source = Walkway(source);
+    let scratch = Scratch(scratch);
     value.is_lawful();
-    let answer = seal_value(source, value, guard.0);
-    source.restart(); // whatever the answer is
-    answer
-}
-
-// The questions that sealing asks, and then the sealing itself.
-fn seal_value<S: MaskSource, K: KeyKind>(
-    source: &mut S,
-    value: &K,
-    scratch: &mut [u8],
-) -> Result<SealedKey, Refusal>
-    requires start { S.walked source.old ≡ [] }
-    requires lawful { K.OrderedKey.lawful value.now }
-    ensures answer { result ≡ seal_answer (S.masks source.old) K.KeyKind.width (length scratch.old) (K.KeyKind.encode value.now) }
-    ensures same_masks { S.masks source.new ≡ S.masks source.old }
-{
-    let width = K::width();
-    if width < 1 || width > 32 {
-        return Err(Refusal::KindWidth);
-    }
-    if scratch.len() < 32 {
-        return Err(Refusal::ShortBuffer);
-    }
-    value.write(scratch)?;
-    let bytes = seal_bytes(source, &scratch[0..width as usize])?;
+    let width = asked_width::<K>(scratch.0.len())?;
+    value.write(scratch.0)?;
+    let bytes = seal_bytes(source.0, &scratch.0[..width as usize])?;
     Ok(SealedKey { width, bytes })
 }
 
 // The packed trits of key bytes, whose bits the source walks along, the last one excepted.
-fn seal_bytes<S: MaskSource>(source: &mut S, key: &[u8]) -> Result<[u8; 52], Refusal>
-    requires start { S.walked source.old ≡ [] }
-    requires served { length key.now ≤ 32 }
+fn seal_bytes<S: MaskSource>(source: &mut S, key: &[u8]) -> Result<[u8; PACKED], Refusal>
+    requires { length key.now ≤ 32 }
     ensures answer { result ≡ Ok (packed_trits (masked (S.masks source.old) [] (bits key.now))) }
     ensures same_masks { S.masks source.new ≡ S.masks source.old }
 {
-    let mut trits = [0u8; 52];
+    source.restart();
+    let mut trits = [0; PACKED];
     let end = 8 * key.len();
+    // the i-th bit stands in byte i / 8 of the key, and its trit in byte i / 5 of the packed ones
     for i in 0..end {
         let bit = bit_at(key, i);
         let trit = (source.mask() + bit as u8) % 3;

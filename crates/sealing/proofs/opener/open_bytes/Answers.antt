@@ -1,33 +1,30 @@
-use Rattle.std.proofs.Common.{◌≡◌, ◌-◌, ◌%◌, ◌≤◌, [], length, replicate, Some, None, Err, sym, refl, ap, ◌∙◌, arith, rules}
-use Rattle.std.proofs.lemmas.Nat.{one_shl}
+use Rattle.std.proofs.Common.{◌≡◌, ◌-◌, ◌%◌, length, replicate, Err, sym, ap, ◌∙◌, arith, rules}
+use Rattle.std.proofs.lemmas.Nat.{shl_whole}
 use Rattle.std.proofs.lemmas.Result.{err_from_is_err_and}
-use Rattle.sealing.specs.Masking.{unmasked}
+use mir.Val.{bool_byte}
+use Rattle.digits.proofs.Bits.{bit_small}
 use Rattle.sealing.specs.Opened.{bytes_of, found_answer}
 use Rattle.sealing.proofs.Walking.{steps_on, never_refused}
-use Rattle.sealing.proofs.Unmasking.{first_trits, nothing_opened, no_bit_behind, written_fits, one_more_opened, all_opened}
+use Rattle.sealing.proofs.Unmasking.{nothing_opened, no_bit_behind, written_fits, one_more_opened, all_opened}
 use Rattle.sealing.proofs.opener.open_bytes.Goals as goal
 use Rattle.sealing.proofs.opener.open_bytes.Goals.{then-i-end+in_ok-step, else-i-end}
 
 pub loop-i-init : goal.loop-i-init
 loop-i-init g c =
-    let key = c.fill.new.self in
-    let cleared : key ≡ replicate (length c.args.key.now) 0 = search rules in
-    (refl, nothing_opened _ _ (length key) _ key c.requires.start (cleared ∙ ap (λ n. replicate n 0) (sym c.fill.ensures.len)))
+    let cleared : c.fill.new.self ≡ replicate (length c.args.key.now) 0 = search rules in
+    (c.restart.ensures.same, nothing_opened _ _ (length c.args.key.now) _ c.fill.new.self c.restart.ensures.list cleared)
 
 pub returns-in_err-bit : goal.returns-in_err-bit
 returns-in_err-bit g c =
     let f = g.S.MaskSource.masks c.args.source.now in
     let walked = g.S.MaskSource.walked c.loop-i.source in
     let sealed = c.args.sealed.now in
-    let same = c.fill.ensures.len in
-    let served : length c.fill.new.self ≤ 32 = omega (arith, same, c.requires.served) in
-    let none = no_bit_behind f sealed (length c.fill.new.self) c.loop-i.i walked c.loop-i.key c.loop-i.invariant.1 served c.told-sealed
+    let none = no_bit_behind f sealed (length c.args.key.now) c.loop-i.i walked c.loop-i.key c.loop-i.invariant.1 c.requires c.told-sealed
     c.loop-i-test.true c.trit_at.result c.mask.result c.trit_at.ensures (c.mask.ensures ∙ ap (λ h. h walked) c.loop-i.invariant.0) _ c.in_err-bit.ensures in
-    let whole : unmasked f [] (first_trits (length c.args.key.now) sealed) ≡ None = ap (λ n. unmasked f [] (first_trits n sealed)) (sym same) ∙ none.0 in
     let refusal = err_from_is_err_and c.from_residual.result c.from_residual.ensures.1 in
     record {
-      answer = ap numbered (refusal.1 ∙ ap (λ e. Err e) refusal.2) ∙ ap (λ n. Err n) none.1 ∙ sym (ap found_answer whole);
-      left = rw whole tt;
+      answer = refusal.1 ∙ ap (λ e. Err e) (refusal.2 ∙ none.1) ∙ sym (ap found_answer none.0);
+      left = rw none.0 tt;
       same_masks = c.loop-i.invariant.0;
     }
 
@@ -36,18 +33,17 @@ returns-in_err-step g c =
     let walked = g.S.MaskSource.walked c.loop-i.source in
     let so_far = c.loop-i.invariant.1 in
     let far : length walked ≡ c.loop-i.i = ap length (so_far.along c.loop-i-test.true) ∙ so_far.long in
-    absurd (never_refused walked (omega (arith, far, c.if-i-end.true, c.requires.served, c.fill.ensures.len)) c.in_err-step.field-0.0 c.in_err-step.ensures.answer)
+    absurd (never_refused walked (omega (arith, far, c.if-i-end.true, c.requires)) c.in_err-step.field-0.0 c.in_err-step.ensures.answer)
 
 pub overflow_add-key : goal.overflow_add-key
 overflow_add-key g c =
     let i = c.loop-i.i in
+    let bit = c.in_ok-bit.bit in
     let walked = g.S.MaskSource.walked c.loop-i.source in
-    let same = c.fill.ensures.len in
-    let served : length c.fill.new.self ≤ 32 = omega (arith, same, c.requires.served) in
     omega (
       arith,
-      written_fits _ c.args.sealed.now (length c.fill.new.self) i walked c.loop-i.key c.loop-i.invariant.1 served c.told-sealed
-          c.loop-i-test.true c.trit_at.result c.mask.result c.trit_at.ensures (c.mask.ensures ∙ ap (λ h. h walked) c.loop-i.invariant.0) c.in_ok-bit.bit _ (one_shl (7 - i % 8) 8 (omega arith)),
+      written_fits _ c.args.sealed.now (length c.args.key.now) i walked c.loop-i.key c.loop-i.invariant.1 c.requires c.told-sealed
+          c.loop-i-test.true c.trit_at.result c.mask.result c.trit_at.ensures (c.mask.ensures ∙ ap (λ h. h walked) c.loop-i.invariant.0) bit _ (shl_whole (bool_byte bit) 1 (7 - i % 8) 8 (bit_small bit) (omega arith)),
     )
 
 pub loop-i-preserved : goal.loop-i-preserved
@@ -58,16 +54,14 @@ loop-i-preserved g c =
     let walked = g.S.MaskSource.walked in
     let before = walked c.loop-i.source in
     let so_far = c.loop-i.invariant.1 in
-    let same = c.fill.ensures.len in
-    let served : length c.fill.new.self ≤ 32 = omega (arith, same, c.requires.served) in
-    let more = one_more_opened (masks c.args.source.now) c.args.sealed.now (length c.fill.new.self) i before c.loop-i.key so_far served c.told-sealed
-    c.loop-i-test.true c.trit_at.result c.mask.result c.trit_at.ensures (c.mask.ensures ∙ ap (λ h. h before) c.loop-i.invariant.0) bit _ (one_shl (7 - i % 8) 8 (omega arith))
+    let more = one_more_opened (masks c.args.source.now) c.args.sealed.now (length c.args.key.now) i before c.loop-i.key so_far c.requires c.told-sealed
+    c.loop-i-test.true c.trit_at.result c.mask.result c.trit_at.ensures (c.mask.ensures ∙ ap (λ h. h before) c.loop-i.invariant.0) bit _ (shl_whole (bool_byte bit) 1 (7 - i % 8) 8 (bit_small bit) (omega arith))
     c.in_ok-bit.ensures (walked c.if-i-end.source) in
     let far : length before ≡ i = ap length (so_far.along c.loop-i-test.true) ∙ so_far.long in
     elim c.if-i-end.branch [
       | then-i-end+in_ok-step w ↦ (
         ap masks w.source-is ∙ w.step.ensures.same ∙ c.loop-i.invariant.0,
-        more (λ _. ap walked w.source-is ∙ w.step.ensures.list ∙ steps_on before (omega (arith, far, w.if-i-end.true, c.requires.served, same)) bit),
+        more (λ _. ap walked w.source-is ∙ w.step.ensures.list ∙ steps_on before (omega (arith, far, w.if-i-end.true, c.requires)) bit),
       )
       | else-i-end w ↦
           (ap masks w.source-is ∙ c.loop-i.invariant.0, more (λ further. absurd (omega (arith, further, w.if-i-end.false))))
@@ -75,16 +69,10 @@ loop-i-preserved g c =
 
 pub returns : goal.returns
 returns g c =
-    let f = g.S.MaskSource.masks c.args.source.now in
-    let sealed = c.args.sealed.now in
     let so_far = c.loop-i.invariant.1 in
-    let same = c.fill.ensures.len in
-    let served : length c.fill.new.self ≤ 32 = omega (arith, same, c.requires.served) in
-    let whole : unmasked f [] (first_trits (length c.args.key.now) sealed) ≡ Some so_far.found =
-    ap (λ n. unmasked f [] (first_trits n sealed)) (sym same)
-    ∙ all_opened f sealed (length c.fill.new.self) c.loop-i.i _ c.loop-i.key so_far served c.told-sealed c.loop-i-test.false in
+    let whole = all_opened (g.S.MaskSource.masks c.args.source.now) c.args.sealed.now (length c.args.key.now) c.loop-i.i _ c.loop-i.key so_far c.requires c.told-sealed c.loop-i-test.false in
     record {
       answer = sym (ap found_answer whole);
-      left = rw whole (so_far.written ∙ ap (λ n. bytes_of n so_far.found) (sym c.loop-i.auto.key));
+      left = rw whole (so_far.written ∙ ap (λ n. bytes_of n so_far.found) (sym (c.loop-i.auto.key ∙ c.fill.ensures.len)));
       same_masks = c.loop-i.invariant.0;
     }

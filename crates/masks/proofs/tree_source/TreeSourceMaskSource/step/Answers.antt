@@ -2,5 +2,5 @@ use Rattle.std.proofs.Common.{rules}
 use Rattle.masks.specs.SourcesLemmas.{node_at_push}
 use Rattle.masks.proofs.tree_source.TreeSourceMaskSource.step.Goals as goal
 
-pub invariant_of-self-2 : goal.invariant_of-self-2
-invariant_of-self-2 c = search (rules, node_at_push)
+pub invariant_of-self-2-clause-reached : goal.invariant_of-self-2-clause-reached
+invariant_of-self-2-clause-reached c = search (rules, node_at_push)

@@ -1,26 +1,18 @@
-use Rattle.masks.proofs.Texts.{no_room_left, room_left, walked_bits_pushed, pushed_exact, pushed_short, pushed_fits}
+use Rattle.std.proofs.Common.{refl}
+use Rattle.masks.proofs.Texts.{no_room_left, room_left, walked_bits_pushed, pushed_text, pushed_fits}
 use Rattle.masks.proofs.walk.Walk.push.Goals as goal
 
 pub returns-then-len : goal.returns-then-len
-returns-then-len c =
-    let walk = c.args.self.now in
-    let full = no_room_left walk.text walk.exact c.if-len.true in
-    record { answer = rw full; list = rw full }
+returns-then-len c = let full = no_room_left c.self.inside.text c.self.invariant c.if-len.true in rw (← c.self.view_is, full) (record { answer = refl; list = refl })
 
 pub returns : goal.returns
 returns c =
-    let walk = c.args.self.now in
-    let room = room_left walk.text walk.exact walk.short c.if-len.false in
-    record { answer = rw room; list = rw room (walked_bits_pushed walk.text walk.exact walk.short c.if-len.false c.args.bit) }
+    let text = c.self.inside.text in
+    let room = room_left text c.self.invariant c.if-len.false in
+    rw (← c.self.view_is, room) (record { answer = refl; list = walked_bits_pushed text c.self.invariant c.if-len.false c.args.bit })
 
 pub invariant_of-self : goal.invariant_of-self
-invariant_of-self c =
-    let walk = c.args.self.now in
-    let exact = pushed_exact walk.text walk.exact walk.short c.if-len.false c.args.bit in
-    let short = pushed_short walk.text walk.exact walk.short c.if-len.false c.args.bit in
-    record { exact = exact; short = short }
+invariant_of-self c = pushed_text c.self.inside.text c.self.invariant c.if-len.false c.args.bit
 
 pub overflow_add-self-2 : goal.overflow_add-self-2
-overflow_add-self-2 c =
-    let walk = c.args.self.now in
-    record { fits = pushed_fits walk.text walk.exact walk.short c.if-len.false c.args.bit }
+overflow_add-self-2 c = record { fits = pushed_fits c.self.inside.text c.self.invariant c.if-len.false c.args.bit }
