@@ -6,8 +6,7 @@ use Rattle.books.specs.declared.entries.Entry.{Entry}
 use Rattle.books.specs.Plain.{by_order, entry}
 use Rattle.avl.specs.Avl.{Avl, fork, height, find, or_else, seek, path}
 use Rattle.avl.proofs.Height.{path_low}
-use Rattle.tree.specs.declared.nodes.Link.{Link}
-use Rattle.tree.specs.declared.nodes.Link.TheVariants.{Nil, At}
+use Rattle.tree.specs.Links.{Link}
 use Rattle.tree.specs.declared.nodes.Node.{Node}
 use Rattle.tree.specs.Descents.{FoundIn, SoughtIn}
 use Rattle.tree.specs.Standing.{Stands, height_at}
@@ -37,7 +36,7 @@ module _ {K : Type 0} {after : Bool} {order : K → K → Ordering} {nodes : Lis
   pub few_comparisons : height t ≤ 250 → comparisons ≤ 250
   few_comparisons limit = let low = path_low after order s t in omega (arith, w.count)
 
-  module _ {i : ℕ} {n : Node K} (is : at ≡ At i) (read : n ≡ get_or nodes i n) where
+  module _ {i : ℕ} {n : Node K} (is : at ≡ Some i) (read : n ≡ get_or nodes i n) where
     walk_reads : Opened nodes i n w.rest
     walk_reads = reads nodes at i n w.rest w.stands is read
 
@@ -81,7 +80,7 @@ module _ {K : Type 0} {order : K → K → Ordering} {nodes : List (Node K)} {s 
   find_starts h = record { rest = t; stands = h; known = refl; count = omega arith }
 
   module _ {at : Link} {comparisons : ℕ} (w : FindsOn order nodes s t at comparisons) where
-    pub find_ends : at ≡ Nil → FoundIn order t s (record { ticket = None; comparisons = comparisons })
+    pub find_ends : at ≡ None → FoundIn order t s (record { ticket = None; comparisons = comparisons })
     find_ends is =
         let e = absent nodes at w.rest w.stands is in
         record {
@@ -89,7 +88,7 @@ module _ {K : Type 0} {order : K → K → Ordering} {nodes : List (Node K)} {s 
           comparisons = let c = subst (λ u. comparisons + path false order u s ≡ path false order t s) e w.count in omega arith;
         }
 
-    module _ {i : ℕ} {n : Node K} (is : at ≡ At i) (read : n ≡ get_or nodes i n) where
+    module _ {i : ℕ} {n : Node K} (is : at ≡ Some i) (read : n ≡ get_or nodes i n) where
       pub find_goes_left : Less ≡ order s n.key → FindsOn order nodes s t n.left (comparisons + 1)
       find_goes_left e = let o = walk_at w is read e in record { rest = o.a; stands = o.left; known = sym (picks _ _ _ e) ∙ o.known; count = omega (arith, o.count) }
 
@@ -104,7 +103,7 @@ module _ {K : Type 0} {order : K → K → Ordering} {nodes : List (Node K)} {s 
     seek_starts h = record { rest = t; stands = h; known = or_none (seek after order t s); count = omega arith }
 
     module _ {at : Link} {comparisons : ℕ} (kept : Option (Entry K)) (w : SeeksOn after order nodes s kept t at comparisons) where
-      pub seek_ends : at ≡ Nil → SoughtIn after order t s (record { entry = kept; comparisons = comparisons })
+      pub seek_ends : at ≡ None → SoughtIn after order t s (record { entry = kept; comparisons = comparisons })
       seek_ends is =
           let e = absent nodes at w.rest w.stands is in
           record {
@@ -112,7 +111,7 @@ module _ {K : Type 0} {order : K → K → Ordering} {nodes : List (Node K)} {s 
             comparisons = let c = subst (λ u. comparisons + path after order u s ≡ path after order t s) e w.count in omega arith;
           }
 
-      module _ {i : ℕ} {n : Node K} (is : at ≡ At i) (read : n ≡ get_or nodes i n) where
+      module _ {i : ℕ} {n : Node K} (is : at ≡ Some i) (read : n ≡ get_or nodes i n) where
         pub seek_goes_left : Less ≡ order s n.key → SeeksOn after order nodes s (Some (entry n.key n.ticket)) t n.left (comparisons + 1)
         seek_goes_left e =
             let o = walk_at w is read e in

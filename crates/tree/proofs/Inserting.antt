@@ -1,19 +1,18 @@
 -- An insertion: what each step asks, and what it leaves.
 use Rattle.std.proofs.Common.{◌≡◌, ℕ, suc, ◌+◌, ◌<◌, ◌≤◌, false, List, ◌∷◌, ◌++◌, length, get_or, Some, None, Ok, Err, Option, Result, Ordering, Less, Equal, Greater, sym, refl, ap, ◌∙◌, subst, arith}
+use Rattle.digits.proofs.Every.{all_left, all_right}
 use Rattle.keys.specs.declared.refusals.Refusal.{Refusal}
 use Rattle.keys.specs.declared.refusals.Refusal.TheVariants.{KeyHeld}
-use Rattle.keys.specs.Refusals.{refusal_number}
 use Rattle.books.specs.Plain.{by_order}
 use Rattle.books.specs.Meaning.{OneMore}
-use Rattle.books.proofs.Cuts.{all_left, all_right, more_left, more_right, more_cons, all_with}
+use Rattle.books.proofs.Cuts.{more_left, more_right, more_cons, all_with}
 use Rattle.avl.specs.Avl.{Avl, tip, fork, height, slots, balance, insert, find, path}
 use Rattle.avl.specs.Model.{Apart}
 use Rattle.avl.proofs.Balance.{insert_balanced}
 use Rattle.avl.proofs.Height.{path_low}
 use Rattle.avl.proofs.Slots.{Sides, sides, crossed, distinct_more, insert_slots}
 use Rattle.tree.specs.declared.changes.Insertion.{Insertion}
-use Rattle.tree.specs.declared.nodes.Link.{Link}
-use Rattle.tree.specs.declared.nodes.Link.TheVariants.{Nil, At}
+use Rattle.tree.specs.Links.{Link}
 use Rattle.tree.specs.declared.nodes.Node.{Node}
 use Rattle.tree.specs.Changes.{Spot, Changing, Changeable, GrownBy, Inserted, Inserts, Siding}
 use Rattle.tree.specs.Shaping.{Joining, Joinable, Joins}
@@ -23,8 +22,8 @@ use Rattle.tree.proofs.Siding.{opened_sides, left_changing, right_changing}
 use Rattle.tree.proofs.Standing.{Opened, reads, left_lower, right_lower, nothing_stands}
 
 -- a leaf in the slot given: its two sides are absent
-module _ {K : Type 0} (nodes : List (Node K)) {slot : Link} {s : ℕ} (is : slot ≡ At s) (spot : Spot nodes slot tip) where
-  leaf_sides : Joining {K = K} 254 nodes s Nil Nil tip tip
+module _ {K : Type 0} (nodes : List (Node K)) {slot : Link} {s : ℕ} (is : slot ≡ Some s) (spot : Spot nodes slot tip) where
+  leaf_sides : Joining {K = K} 254 nodes s None None tip tip
   leaf_sides =
       record {
         left_stands = nothing_stands nodes;
@@ -35,10 +34,10 @@ module _ {K : Type 0} (nodes : List (Node K)) {slot : Link} {s : ℕ} (is : slot
         right_low = omega arith;
       }
 
-  pub leaf_joins : Joinable 254 nodes s Nil Nil
+  pub leaf_joins : Joinable 254 nodes s None None
   leaf_joins = (tip, (tip, leaf_sides))
 
-  pub leaf_grown : (order : K → K → Ordering) {k : K} {v : ℕ} {after : List (Node K)} {top : Link} → Joins 254 (fork s k v) nodes s Nil Nil after top → GrownBy order None slot nodes tip k v after (Ok top)
+  pub leaf_grown : (order : K → K → Ordering) {k : K} {v : ℕ} {after : List (Node K)} {top : Link} → Joins 254 (fork s k v) nodes s None None after top → GrownBy order None slot nodes tip k v after (Ok top)
   leaf_grown order {k} {v} {after} {top} one = subst (λ at. GrownBy order None at nodes tip k v after (Ok top)) (sym is) (top, (refl, one tip tip leaf_sides))
 
 -- the way down from t goes into its side a, and with that side grown `over` makes the whole tree again
@@ -72,15 +71,15 @@ module _ {K : Type 0} (order : K → K → Ordering) (k : K) (nodes : List (Node
 record Accepted {K : Type 0} (order : K → K → Ordering) (found : Option ℕ) (slot : Link) (nodes : List (Node K)) (t : Avl K) (k : K) (v : ℕ) (after : List (Node K)) (top : Link) : Type 0 where
   s : ℕ
   absent : found ≡ None
-  given : slot ≡ At s
+  given : slot ≡ Some s
   grown : Reshaped nodes after (s ∷ slots t) top (insert order t k v s)
 
 module _ {K : Type 0} (order : K → K → Ordering) (k : K) (v : ℕ) (nodes after : List (Node K)) where
   -- an insertion that answers a link accepted the pair, and the other way round
   accepts : (found : Option ℕ) (slot : Link) (t : Avl K) (top : Link) → GrownBy order found slot nodes t k v after (Ok top) → Accepted order found slot nodes t k v after top
   accepts (Some held) slot t top g = absurd (let e = g.0 in let z : ◌≡◌ {A = ℕ} 0 1 = cc in omega arith)
-  accepts None Nil t top g = absurd (let e = g.0 in let z : ◌≡◌ {A = ℕ} 0 1 = cc in omega arith)
-  accepts None (At s) t top g =
+  accepts None None t top g = absurd (let e = g.0 in let z : ◌≡◌ {A = ℕ} 0 1 = cc in omega arith)
+  accepts None (Some s) t top g =
       let e = g.1.0 in
       let is : g.0 ≡ top = cc in
       record { s = s; absent = refl; given = refl; grown = subst (λ at. Reshaped nodes after (s ∷ slots t) at (insert order t k v s)) is g.1.1 }
@@ -92,13 +91,13 @@ module _ {K : Type 0} (order : K → K → Ordering) (k : K) (v : ℕ) (nodes af
   -- a refusal does not depend on the tree
   refuses : (found : Option ℕ) (slot : Link) (a t : Avl K) (refusal : Refusal) → GrownBy order found slot nodes a k v after (Err refusal) → GrownBy order found slot nodes t k v after (Err refusal)
   refuses (Some held) slot a t refusal g = g
-  refuses None Nil a t refusal g = g
-  refuses None (At s) a t refusal g = absurd (let e = g.1.0 in let z : ◌≡◌ {A = ℕ} 0 1 = cc in omega arith)
+  refuses None None a t refusal g = g
+  refuses None (Some s) a t refusal g = absurd (let e = g.1.0 in let z : ◌≡◌ {A = ℕ} 0 1 = cc in omega arith)
 
   still_refuses : (found : Option ℕ) (slot : Link) (a t : Avl K) (top : Result Link Refusal) → ((side : Link) → top ≡ Ok side → ⊥) →
       GrownBy order found slot nodes a k v after top → GrownBy order found slot nodes t k v after top
   still_refuses found slot a t (Ok side) never g = absurd (never side refl)
-  still_refuses found slot a t (Err e) never g = refuses found slot a t (refusal_number e) g
+  still_refuses found slot a t (Err e) never g = refuses found slot a t e g
 
 -- what an insertion into the side a makes of t: a refusal is passed up, and an accepted pair is in t too
 module _ {K : Type 0} (order : K → K → Ordering) (k : K) (v : ℕ) (nodes : List (Node K)) (slot : Link) (t a : Avl K) (over : Avl K → Avl K) (way : GoesInto order k t a over) where
@@ -119,8 +118,8 @@ module _ {K : Type 0} (order : K → K → Ordering) (k : K) (v : ℕ) (nodes : 
 
 -- a slot that is apart from a tree is apart from a part of it
 spot_part : {K : Type 0} (nodes : List (Node K)) (slot : Link) (t u : Avl K) → ((s : ℕ) → Apart s (slots t) → Apart s (slots u)) → Spot nodes slot t → Spot nodes slot u
-spot_part nodes Nil t u off p = tt
-spot_part nodes (At s) t u off p = (p.0, off s p.1)
+spot_part nodes None t u off p = tt
+spot_part nodes (Some s) t u off p = (p.0, off s p.1)
 
 -- what the contract of an insertion tells of the side that it was made into
 module _ {K : Type 0} {order : K → K → Ordering} {k : K} {v : ℕ} {nodes : List (Node K)} {at slot : Link} {a : Avl K} (g : Changing nodes at slot a)
@@ -135,7 +134,7 @@ module _ {K : Type 0} {order : K → K → Ordering} {k : K} {v : ℕ} {nodes : 
   grown_low s = omega (arith, (insert_balanced order a k v s g.balanced).high, g.placed.low)
 
 -- at the root that was read: its sides can change, and are lower than it, so that the way down ends
-module _ {K : Type 0} {nodes : List (Node K)} {at slot : Link} {i : ℕ} {n : Node K} (is : at ≡ At i) (read : n ≡ get_or nodes i n) {t : Avl K} (g : Changing nodes at slot t) where
+module _ {K : Type 0} {nodes : List (Node K)} {at slot : Link} {i : ℕ} {n : Node K} (is : at ≡ Some i) (read : n ≡ get_or nodes i n) {t : Avl K} (g : Changing nodes at slot t) where
   root : Opened nodes i n t
   root = reads nodes at i n t g.placed.stands is read
 
@@ -149,7 +148,7 @@ module _ {K : Type 0} {nodes : List (Node K)} {at slot : Link} {i : ℕ} {n : No
   root_slots = ap slots root.is
 
   -- the slot given is not one of the tree
-  unused : (s : ℕ) → slot ≡ At s → Apart s (slots root.a ++ (i ∷ slots root.b))
+  unused : (s : ℕ) → slot ≡ Some s → Apart s (slots root.a ++ (i ∷ slots root.b))
   unused s e = subst (Apart s) root_slots (subst (λ x. Spot nodes x t) e g.spot).1
 
   pub left_falls : height_at nodes n.left < height_at nodes at

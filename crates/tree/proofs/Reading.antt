@@ -1,8 +1,7 @@
 -- What is read back from node memory is what stands there.
-use Rattle.std.proofs.Common.{◌≡◌, ℕ, zero, suc, ◌≤◌, List, [], ◌∷◌, length, refl, ap, ◌∙◌, arith}
+use Rattle.std.proofs.Common.{◌≡◌, ℕ, zero, suc, ◌≤◌, List, [], ◌∷◌, length, refl, ap, ◌∙◌, arith, None}
 use Rattle.avl.specs.Avl.{Avl, tip, fork, height}
-use Rattle.tree.specs.declared.nodes.Link.{Link}
-use Rattle.tree.specs.declared.nodes.Link.TheVariants.{Nil}
+use Rattle.tree.specs.Links.{Link}
 use Rattle.tree.specs.declared.nodes.Node.{Node}
 use Rattle.tree.specs.Standing.{link_of, Lies, Stands}
 use Rattle.tree.specs.States.{read_node, read_tree, tree_at, read_link, read_free, free_at, Chain}
@@ -22,7 +21,7 @@ module _ {K : Type 0} (nodes : List (Node K)) where
   unfolding tree_at
   reads_tree at t s low = ap (read_tree 100 nodes) s.linked ∙ reads_below t 100 s.lies low
 
-  reads_none : (most : ℕ) → read_free most nodes Nil ≡ []
+  reads_none : (most : ℕ) → read_free most nodes None ≡ []
   unfolding read_free
   reads_none zero = refl
   reads_none (suc most) = refl

@@ -1,8 +1,8 @@
 -- Removal: a tree that has lost a node, and a node that is put over it again.
 use Rattle.std.proofs.Common.{◌≡◌, ℕ, suc, ◌+◌, ◌<◌, ◌≤◌, false, List, [], ◌∷◌, ◌++◌, length, get_or, Some, None, Option, Ordering, Less, Equal, Greater, sym, refl, ap, ◌∙◌, subst, arith}
-use Rattle.std.proofs.ByRecursion.{All-weaker}
+use Rattle.digits.proofs.Every.{all_weaker, all_left, all_right}
 use Rattle.books.specs.Meaning.{OneMore}
-use Rattle.books.proofs.Cuts.{all_left, all_right, more_left, more_right, more_cons, all_without}
+use Rattle.books.proofs.Cuts.{more_left, more_right, more_cons, all_without}
 use Rattle.avl.specs.Avl.{Avl, tip, fork, height, Balanced, slots, balance, least_slot, without_least, remove, freed, find, path}
 use Rattle.avl.specs.Model.{Apart}
 use Rattle.avl.proofs.Balance.{without_least_balanced, remove_balanced}
@@ -13,8 +13,7 @@ use Rattle.tree.specs.declared.changes.Gone.{Gone}
 use Rattle.tree.specs.declared.changes.Joint.{Joint}
 use Rattle.tree.specs.declared.changes.Least.{Least}
 use Rattle.tree.specs.declared.changes.Removal.{Removal}
-use Rattle.tree.specs.declared.nodes.Link.{Link}
-use Rattle.tree.specs.declared.nodes.Link.TheVariants.{Nil, At}
+use Rattle.tree.specs.Links.{Link}
 use Rattle.tree.specs.declared.nodes.Node.{Node}
 use Rattle.tree.specs.Changes.{Changing, Changeable, Siding, Sided, LeastGone, TakesTheLeast, JoinedUp, JoinsUp, ShrunkBy, Removed, Removes}
 use Rattle.tree.specs.Shaping.{Joining, Joinable, Joins}
@@ -26,40 +25,40 @@ use Rattle.tree.proofs.Standing.{Opened, reads, absent, left_lower, right_lower}
 
 -- the node n in slot i was read, to which the link leads
 pub record Root {K : Type 0} (nodes : List (Node K)) (at : Link) (i : ℕ) (n : Node K) : Type 0 where
-  pub leads : at ≡ At i
+  pub leads : at ≡ Some i
   pub read : n ≡ get_or nodes i n
 
-pub root : {K : Type 0} (nodes : List (Node K)) {at : Link} {i : ℕ} {n : Node K} → at ≡ At i → n ≡ get_or nodes i n → Root nodes at i n
+pub root : {K : Type 0} (nodes : List (Node K)) {at : Link} {i : ℕ} {n : Node K} → at ≡ Some i → n ≡ get_or nodes i n → Root nodes at i n
 root nodes leads read = record { leads = leads; read = read }
 
 -- what it tells of any tree that can change there
 module _ {K : Type 0} {nodes : List (Node K)} {at : Link} {i : ℕ} {n : Node K} (r : Root nodes at i n) where
-  pub opened_root : (t : Avl K) → Changing nodes at Nil t → Opened nodes i n t
+  pub opened_root : (t : Avl K) → Changing nodes at None t → Opened nodes i n t
   opened_root t h = reads nodes at i n t h.placed.stands r.leads r.read
 
-  pub root_sides : (t : Avl K) (h : Changing nodes at Nil t) → Siding nodes i n.left n.right (opened_root t h).a (opened_root t h).b
-  root_sides t h = opened_sides nodes at Nil i n t h r.leads (opened_root t h)
+  pub root_sides : (t : Avl K) (h : Changing nodes at None t) → Siding nodes i n.left n.right (opened_root t h).a (opened_root t h).b
+  root_sides t h = opened_sides nodes at None i n t h r.leads (opened_root t h)
 
-  pub sided : Changeable nodes at Nil → Sided nodes i n.left n.right
+  pub sided : Changeable nodes at None → Sided nodes i n.left n.right
   sided (t, h) = ((opened_root t h).a, ((opened_root t h).b, root_sides t h))
 
-  pub falls_left : Changeable nodes at Nil → height_at nodes n.left < height_at nodes at
+  pub falls_left : Changeable nodes at None → height_at nodes n.left < height_at nodes at
   falls_left (t, h) = left_lower nodes at i n t h.placed.stands (opened_root t h)
 
-  pub falls_right : Changeable nodes at Nil → height_at nodes n.right < height_at nodes at
+  pub falls_right : Changeable nodes at None → height_at nodes n.right < height_at nodes at
   falls_right (t, h) = right_lower nodes at i n t h.placed.stands (opened_root t h)
 
   -- what holds of the node over the two sides holds of the tree
-  pub of_root : (P : Avl K → Type 0) (t : Avl K) (h : Changing nodes at Nil t) → P (fork i n.key n.ticket (opened_root t h).a (opened_root t h).b) → P t
+  pub of_root : (P : Avl K → Type 0) (t : Avl K) (h : Changing nodes at None t) → P (fork i n.key n.ticket (opened_root t h).a (opened_root t h).b) → P t
   of_root P t h p = subst P (sym (opened_root t h).is) p
 
 -- each side of a node can change by itself
 module _ {K : Type 0} {nodes : List (Node K)} {i : ℕ} {at left right : Link} where
-  pub left_changeable : left ≡ at → Sided nodes i left right → Changeable nodes at Nil
-  left_changeable is (a, (b, s)) = (a, subst (λ l. Changing nodes l Nil a) is (left_changing s Nil tt))
+  pub left_changeable : left ≡ at → Sided nodes i left right → Changeable nodes at None
+  left_changeable is (a, (b, s)) = (a, subst (λ l. Changing nodes l None a) is (left_changing s None tt))
 
-  pub right_changeable : right ≡ at → Sided nodes i left right → Changeable nodes at Nil
-  right_changeable is (a, (b, s)) = (b, subst (λ l. Changing nodes l Nil b) is (right_changing s Nil tt))
+  pub right_changeable : right ≡ at → Sided nodes i left right → Changeable nodes at None
+  right_changeable is (a, (b, s)) = (b, subst (λ l. Changing nodes l None b) is (right_changing s None tt))
 
 -- from `nodes` to `mid` the tree t lost a node, and what is left stands at `top`
 record Lessened {K : Type 0} (nodes : List (Node K)) (t : Avl K) (mid : List (Node K)) (top : Link) (left : Avl K) : Type 0 where
@@ -93,7 +92,7 @@ module _ {K : Type 0} {nodes : List (Node K)} {i : ℕ} {left right : Link} {a b
 
     right_rejoins : Joining 250 mid i left top a u
     right_rejoins =
-        joins_right 250 nodes mid i (slots b) top left u a l.reshaped s.joining.left_stands (All-weaker (λ j. Apart j (i ∷ slots b)) (λ j. Apart j (slots b)) (λ j p. p.1) (slots a) (parts s).left_right)
+        joins_right 250 nodes mid i (slots b) top left u a l.reshaped s.joining.left_stands (all_weaker (λ j. Apart j (i ∷ slots b)) (λ j. Apart j (slots b)) (λ j p. p.1) (slots a) (parts s).left_right)
         kept s.joining.within (omega (arith, l.no_higher, s.joining.right_low)) (omega (arith, s.joining.left_low)) (distinct_less l.slot _ _ right_one_more s.joining.distinct).1
 
     right_settles : (k : K) (v : ℕ) {after : List (Node K)} {at : Link} → Joins 250 (balance i k v) mid i left top after at → Reshaped nodes after (slots a ++ (i ∷ slots b)) at (balance i k v a u)
@@ -116,7 +115,7 @@ least_left {j = j} l = without_least j l.q l.w l.c l.d
 
 module _ {K : Type 0} {nodes mid : List (Node K)} {j : ℕ} {least : Least K} where
   -- a tree at a link to slot j is a node in that slot
-  least_out : {at : Link} (t : Avl K) → Changing nodes at Nil t → at ≡ At j → TakesTheLeast nodes j mid least → LeastOut nodes mid j t least
+  least_out : {at : Link} (t : Avl K) → Changing nodes at None t → at ≡ Some j → TakesTheLeast nodes j mid least → LeastOut nodes mid j t least
   least_out tip c is all = absurd (let z : ◌≡◌ {A = ℕ} 0 1 = cc in omega arith)
   least_out {at} (fork m q w a b) c is all =
       let here : m ≡ j = cc in
@@ -126,7 +125,7 @@ module _ {K : Type 0} {nodes mid : List (Node K)} {j : ℕ} {least : Least K} wh
         c = a;
         d = b;
         is = ap (λ x. fork x q w a b) here;
-        gone = all q w a b (subst (λ l. Changing nodes l Nil (fork j q w a b)) is (subst (λ x. Changing nodes at Nil (fork x q w a b)) here c));
+        gone = all q w a b (subst (λ l. Changing nodes l None (fork j q w a b)) is (subst (λ x. Changing nodes at None (fork x q w a b)) here c));
       }
 
   -- the least slot is the first of the list, so it is the one that goes
@@ -144,9 +143,9 @@ abbrev LeastGoneOf : {K : Type 0} → List (Node K) → List (Node K) → Least 
 LeastGoneOf nodes after r tip = Unit {0}
 LeastGoneOf nodes after r (fork i k v a b) = LeastGone nodes i k v a b after r
 
-module _ {K : Type 0} {nodes : List (Node K)} {i : ℕ} {n : Node K} (r : Root nodes (At i) i n) where
+module _ {K : Type 0} {nodes : List (Node K)} {i : ℕ} {n : Node K} (r : Root nodes (Some i) i n) where
   -- where the left side is absent, the root is the least
-  pub least_at_root : n.left ≡ Nil → TakesTheLeast nodes i nodes (record { key = n.key; ticket = n.ticket; slot = i; top = n.right })
+  pub least_at_root : n.left ≡ None → TakesTheLeast nodes i nodes (record { key = n.key; ticket = n.ticket; slot = i; top = n.right })
   least_at_root none k v a b h =
       let answer : Least K = record { key = n.key; ticket = n.ticket; slot = i; top = n.right } in
       let o = opened_root r (fork i k v a b) h in
@@ -155,14 +154,14 @@ module _ {K : Type 0} {nodes : List (Node K)} {i : ℕ} {n : Node K} (r : Root n
       (record { key = refl; ticket = refl; slot = refl; left = record { stands = o.right; frame = λ m apart. refl } }))
 
   -- else it is the least of the left side
-  module _ {j : ℕ} (is : n.left ≡ At j) {mid : List (Node K)} (kept : length mid ≡ length nodes) {least : Least K} (below : TakesTheLeast nodes j mid least) where
-    left_least : (t : Avl K) (h : Changing nodes (At i) Nil t) → LeastOut nodes mid j (opened_root r t h).a least
-    left_least t h = least_out (opened_root r t h).a (left_changing (root_sides r t h) Nil tt) is below
+  module _ {j : ℕ} (is : n.left ≡ Some j) {mid : List (Node K)} (kept : length mid ≡ length nodes) {least : Least K} (below : TakesTheLeast nodes j mid least) where
+    left_least : (t : Avl K) (h : Changing nodes (Some i) None t) → LeastOut nodes mid j (opened_root r t h).a least
+    left_least t h = least_out (opened_root r t h).a (left_changing (root_sides r t h) None tt) is below
 
-    left_lessens : (t : Avl K) (h : Changing nodes (At i) Nil t) → Lessened nodes (opened_root r t h).a mid least.top (least_left (left_least t h))
+    left_lessens : (t : Avl K) (h : Changing nodes (Some i) None t) → Lessened nodes (opened_root r t h).a mid least.top (least_left (left_least t h))
     left_lessens t h = least_lessens (root_sides r t h).left_balanced (left_least t h)
 
-    pub least_rejoins : Changeable nodes (At i) Nil → Joinable 250 mid i least.top n.right
+    pub least_rejoins : Changeable nodes (Some i) None → Joinable 250 mid i least.top n.right
     least_rejoins (t, h) = (least_left (left_least t h), ((opened_root r t h).b, left_rejoins (root_sides r t h) kept (left_lessens t h)))
 
     pub least_at_left : {after : List (Node K)} {top : Link} → Joins 250 (balance i n.key n.ticket) mid i least.top n.right after top →
@@ -183,10 +182,10 @@ module _ {K : Type 0} {nodes : List (Node K)} {i : ℕ} {n : Node K} (r : Root n
         }))
 
 -- a node whose pair goes, with two sides: it gets the least pair of its right side
-module _ {K : Type 0} {nodes : List (Node K)} {right : Link} {m : ℕ} (is : right ≡ At m) {mid : List (Node K)} (kept : length mid ≡ length nodes) {least : Least K} (below : TakesTheLeast nodes m mid least)
+module _ {K : Type 0} {nodes : List (Node K)} {right : Link} {m : ℕ} (is : right ≡ Some m) {mid : List (Node K)} (kept : length mid ≡ length nodes) {least : Least K} (below : TakesTheLeast nodes m mid least)
     {i : ℕ} {left : Link} where
   right_least : {a b : Avl K} → Siding nodes i left right a b → LeastOut nodes mid m b least
-  right_least {b = b} s = least_out b (right_changing s Nil tt) is below
+  right_least {b = b} s = least_out b (right_changing s None tt) is below
 
   right_lessens : {a b : Avl K} (s : Siding nodes i left right a b) → Lessened nodes b mid least.top (least_left (right_least s))
   right_lessens s = least_lessens s.right_balanced (right_least s)
@@ -194,7 +193,7 @@ module _ {K : Type 0} {nodes : List (Node K)} {right : Link} {m : ℕ} (is : rig
   pub least_replaces : Sided nodes i left right → Joinable 250 mid i left least.top
   least_replaces (a, (b, s)) = (a, (least_left (right_least s), right_rejoins s kept (right_lessens s)))
 
-  pub least_joins : {j : ℕ} → left ≡ At j → {after : List (Node K)} {top : Link} → Joins 250 (balance i least.key least.ticket) mid i left least.top after top →
+  pub least_joins : {j : ℕ} → left ≡ Some j → {after : List (Node K)} {top : Link} → Joins 250 (balance i least.key least.ticket) mid i left least.top after top →
       JoinsUp nodes i left right after (record { top = top; slot = least.slot })
   least_joins at settled tip b s = absurd (let z : ◌≡◌ {A = ℕ} 0 1 = cc (at, s.joining.left_stands.linked) in omega arith)
   least_joins at {after} {top} settled (fork p k v x y) b s =
@@ -238,15 +237,15 @@ module _ {K : Type 0} (order : K → K → Ordering) (s : K) {nodes : List (Node
 -- from t the way of s goes down to a side, which is u
 pub record Way {K : Type 0} (order : K → K → Ordering) (s : K) (nodes : List (Node K)) (side : Link) (t : Avl K) : Type 0 where
   pub u : Avl K
-  pub changing : Changing nodes side Nil u
+  pub changing : Changing nodes side None u
   pub paths : path false order t s ≡ suc (path false order u s)
   pub finds : find order t s ≡ find order u s
   pub frees : freed order t s ≡ freed order u s
 
 module _ {K : Type 0} {order : K → K → Ordering} {s : K} {nodes : List (Node K)} where
   -- what a removal from that side answers, of any tree that stands here
-  module _ {at side : Link} (way : (t : Avl K) → Changing nodes at Nil t → Way order s nodes side t) {mid : List (Node K)} (below : Removal) (done : Removes order nodes side s mid below) where
-    pub side_few : Changeable nodes at Nil → below.comparisons ≤ 100
+  module _ {at side : Link} (way : (t : Avl K) → Changing nodes at None t → Way order s nodes side t) {mid : List (Node K)} (below : Removal) (done : Removes order nodes side s mid below) where
+    pub side_few : Changeable nodes at None → below.comparisons ≤ 100
     side_few (t, h) = let w = way t h in let low = path_low false order s w.u in omega (arith, (done w.u w.changing).comparisons, w.changing.placed.low)
 
     pub stays_on : below.gone ≡ None → Removes order nodes at s mid (record { gone = None; comparisons = below.comparisons + 1 })
@@ -257,15 +256,15 @@ module _ {K : Type 0} {order : K → K → Ordering} {s : K} {nodes : List (Node
         record { comparisons = omega (arith, r.comparisons, w.paths); outcome = subst (λ x. ShrunkBy order x nodes t s mid None) (sym (w.finds ∙ e.0)) (refl, e.1) }
 
     module _ {gone : Gone} (some : below.gone ≡ Some gone) where
-      side_went : (t : Avl K) (h : Changing nodes at Nil t) → Went order s nodes (way t h).u mid gone
+      side_went : (t : Avl K) (h : Changing nodes at None t) → Went order s nodes (way t h).u mid gone
       side_went t h = went order s (way t h).u mid below.gone gone (done (way t h).u (way t h).changing).outcome some
 
-      side_lessens : (t : Avl K) (h : Changing nodes at Nil t) → Lessened nodes (way t h).u mid gone.top (remove order (way t h).u s)
+      side_lessens : (t : Avl K) (h : Changing nodes at None t) → Lessened nodes (way t h).u mid gone.top (remove order (way t h).u s)
       side_lessens t h =
           let w = side_went t h in
           record { slot = gone.slot; one_more = remove_slots order s (way t h).u gone.slot w.frees; reshaped = w.reshaped; no_higher = (remove_balanced order (way t h).u s (way t h).changing.balanced).high }
 
-      goes_on : {after : List (Node K)} {top : Link} → ((t : Avl K) → Changing nodes at Nil t → Reshaped nodes after (slots t) top (remove order t s)) →
+      goes_on : {after : List (Node K)} {top : Link} → ((t : Avl K) → Changing nodes at None t → Reshaped nodes after (slots t) top (remove order t s)) →
           Removes order nodes at s after (record { gone = Some (record { ticket = gone.ticket; slot = gone.slot; top = top }); comparisons = below.comparisons + 1 })
       goes_on {after} {top} made t h =
           let w = way t h in
@@ -274,23 +273,23 @@ module _ {K : Type 0} {order : K → K → Ordering} {s : K} {nodes : List (Node
 
   -- by one comparison at the root that was read
   module _ {at : Link} {i : ℕ} {n : Node K} (r : Root nodes at i n) where
-    abbrev pub left_way : Less ≡ order s n.key → (t : Avl K) → Changing nodes at Nil t → Way order s nodes n.left t
+    abbrev pub left_way : Less ≡ order s n.key → (t : Avl K) → Changing nodes at None t → Way order s nodes n.left t
     left_way less t h =
         let o = opened_root r t h in
         record {
           u = o.a;
-          changing = left_changing (root_sides r t h) Nil tt;
+          changing = left_changing (root_sides r t h) None tt;
           paths = of_root r (λ x. path false order x s ≡ suc (path false order o.a s)) t h (ap suc (picks _ _ _ less));
           finds = of_root r (λ x. find order x s ≡ find order o.a s) t h (picks _ _ _ less);
           frees = of_root r (λ x. freed order x s ≡ freed order o.a s) t h (picks _ _ _ less);
         }
 
-    abbrev pub right_way : Greater ≡ order s n.key → (t : Avl K) → Changing nodes at Nil t → Way order s nodes n.right t
+    abbrev pub right_way : Greater ≡ order s n.key → (t : Avl K) → Changing nodes at None t → Way order s nodes n.right t
     right_way greater t h =
         let o = opened_root r t h in
         record {
           u = o.b;
-          changing = right_changing (root_sides r t h) Nil tt;
+          changing = right_changing (root_sides r t h) None tt;
           paths = of_root r (λ x. path false order x s ≡ suc (path false order o.b s)) t h (ap suc (picks _ _ _ greater));
           finds = of_root r (λ x. find order x s ≡ find order o.b s) t h (picks _ _ _ greater);
           frees = of_root r (λ x. freed order x s ≡ freed order o.b s) t h (picks _ _ _ greater);
@@ -299,7 +298,7 @@ module _ {K : Type 0} {order : K → K → Ordering} {s : K} {nodes : List (Node
     -- a pair went from a side, and the root is put over that side again
     module _ {mid : List (Node K)} (kept : length mid ≡ length nodes) (below : Removal) {gone : Gone} (some : below.gone ≡ Some gone) where
       module _ (less : Less ≡ order s n.key) (done : Removes order nodes n.left s mid below) where
-        pub left_removal_rejoins : Changeable nodes at Nil → Joinable 250 mid i gone.top n.right
+        pub left_removal_rejoins : Changeable nodes at None → Joinable 250 mid i gone.top n.right
         left_removal_rejoins (t, h) =
             let o = opened_root r t h in
             (remove order o.a s, (o.b, left_rejoins (root_sides r t h) kept (side_lessens (left_way less) below done some t h)))
@@ -313,7 +312,7 @@ module _ {K : Type 0} {order : K → K → Ordering} {s : K} {nodes : List (Node
             (left_settles (root_sides r t h) kept (side_lessens (left_way less) below done some t h) n.key n.ticket settled)))
 
       module _ (greater : Greater ≡ order s n.key) (done : Removes order nodes n.right s mid below) where
-        pub right_removal_rejoins : Changeable nodes at Nil → Joinable 250 mid i n.left gone.top
+        pub right_removal_rejoins : Changeable nodes at None → Joinable 250 mid i n.left gone.top
         right_removal_rejoins (t, h) =
             let o = opened_root r t h in
             (o.a, (remove order o.b s, right_rejoins (root_sides r t h) kept (side_lessens (right_way greater) below done some t h)))

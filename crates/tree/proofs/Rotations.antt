@@ -1,22 +1,20 @@
 -- Nodes written over their sides, and rotations: what each step asks, and what it leaves.
-use Rattle.std.proofs.Common.{◌≡◌, ℕ, suc, ◌+◌, ◌<◌, ◌≤◌, max, List, ◌∷◌, ◌++◌, length, get_or, set, Some, sym, refl, ap, ◌∙◌, subst, arith}
+use Rattle.std.proofs.Common.{◌≡◌, ℕ, suc, ◌+◌, ◌<◌, ◌≤◌, max, List, ◌∷◌, ◌++◌, length, get_or, set, Some, sym, refl, ap, ◌∙◌, subst, arith, None}
 use Rattle.std.specs.List.{slice_get, AllByRecursion}
-use Rattle.std.proofs.ByRecursion.{All-weaker}
 use Rattle.std.proofs.lemmas.Option.{slice_get_read}
+use Rattle.digits.proofs.Every.{all_weaker, all_left, all_right}
 use Rattle.avl.specs.Avl.{Avl, fork, height, slots, turn_right, turn_left}
 use Rattle.avl.specs.Model.{Apart, Distinct}
 use Rattle.avl.proofs.Inorder.{turn_right_inorder, turn_left_inorder}
 use Rattle.avl.proofs.Slots.{Sides, sides}
-use Rattle.books.proofs.Cuts.{all_left, all_right}
-use Rattle.tree.specs.declared.nodes.Link.{Link}
-use Rattle.tree.specs.declared.nodes.Link.TheVariants.{Nil, At}
+use Rattle.tree.specs.Links.{Link}
 use Rattle.tree.specs.declared.nodes.Node.{Node}
 use Rattle.tree.specs.Shaping.{Joining, Joinable, Joins}
 use Rattle.tree.specs.Standing.{node_of, Stands, told_height, height_at, Reaches, Reshaped}
 use Rattle.tree.proofs.Standing.{Opened, reads, absent, leads_inside, nth_set_same, nth_set_other, told_truly, stands_still, stands_apart}
 
 -- what an element that the code has read tells of the height at its link
-pub told_by_read : {K : Type 0} (nodes : List (Node K)) (at : Link) (i : ℕ) (n : Node K) → Reaches nodes at → at ≡ At i → n ≡ get_or nodes i n → (get_or nodes i n).height ≡ height_at nodes at
+pub told_by_read : {K : Type 0} (nodes : List (Node K)) (at : Link) (i : ℕ) (n : Node K) → Reaches nodes at → at ≡ Some i → n ≡ get_or nodes i n → (get_or nodes i n).height ≡ height_at nodes at
 told_by_read {K} nodes at i n r is read =
     let h : i < length nodes = subst (Reaches nodes) is r in
     ap (λ (m : Node K). m.height) (sym read) ∙ sym (ap (height_at nodes) is ∙ ap told_height (slice_get_read nodes (length nodes) i n refl h read))
@@ -27,7 +25,7 @@ module _ {K : Type 0} {limit : ℕ} {nodes : List (Node K)} {i : ℕ} {left righ
   joined_height = let x = told_truly nodes left a j.left_stands in let y = told_truly nodes right b j.right_stands in cc
 
   pub forks : (k : K) (v h : ℕ) → h ≡ max (height_at nodes left) (height_at nodes right) →
-      Reshaped nodes (set nodes i (record { key = k; ticket = v; left = left; right = right; height = h + 1 })) (slots a ++ (i ∷ slots b)) (At i) (fork i k v a b)
+      Reshaped nodes (set nodes i (record { key = k; ticket = v; left = left; right = right; height = h + 1 })) (slots a ++ (i ∷ slots b)) (Some i) (fork i k v a b)
   forks k v h is =
       let n : Node K = record { key = k; ticket = v; left = left; right = right; height = h + 1 } in
       let after : List (Node K) = set nodes i n in
@@ -36,7 +34,7 @@ module _ {K : Type 0} {limit : ℕ} {nodes : List (Node K)} {i : ℕ} {left righ
       let top : h + 1 ≡ suc (max (height a) (height b)) = let e = joined_height in omega arith in
       let made : n ≡ node_of k v a b = λ p. record { key = k; ticket = v; left = j.left_stands.linked p; right = j.right_stands.linked p; height = top p } in
       let still : (t : Avl K) (at : Link) → Apart i (slots t) → Stands nodes at t → Stands after at t =
-      λ t at apart. stands_still nodes after at t (All-weaker (λ m. i ≡ m → ⊥) same (λ m ne. nth_set_other nodes i m n (λ e. ne (sym e))) (slots t) apart) in
+      λ t at apart. stands_still nodes after at t (all_weaker (λ m. i ≡ m → ⊥) same (λ m ne. nth_set_other nodes i m n (λ e. ne (sym e))) (slots t) apart) in
       record {
         stands = record {
           lies = (nth_set_same nodes i n j.within ∙ ap Some made, (still a left s.off_left j.left_stands).lies, (still b right s.off_right j.right_stands).lies);
@@ -71,18 +69,18 @@ module _ {K : Type 0} {nodes : List (Node K)} {i : ℕ} {k : K} {v : ℕ} {left 
   written : Reshaped nodes after (slots a ++ (i ∷ slots b)) top (fork i k v a b)
   written = one a b (joins_within 253 254 (omega arith) g)
 
-  pub nothing_turns_right : left ≡ Nil → Reshaped nodes after (slots a ++ (i ∷ slots b)) top (turn_right i k v a b)
+  pub nothing_turns_right : left ≡ None → Reshaped nodes after (slots a ++ (i ∷ slots b)) top (turn_right i k v a b)
   nothing_turns_right is =
       let e = absent nodes left a g.left_stands is in
       subst (Reshaped nodes after (slots a ++ (i ∷ slots b)) top) (ap (λ t. fork i k v t b) e ∙ sym (ap (λ t. turn_right i k v t b) e)) written
 
-  pub nothing_turns_left : right ≡ Nil → Reshaped nodes after (slots a ++ (i ∷ slots b)) top (turn_left i k v a b)
+  pub nothing_turns_left : right ≡ None → Reshaped nodes after (slots a ++ (i ∷ slots b)) top (turn_left i k v a b)
   nothing_turns_left is =
       let e = absent nodes right b g.right_stands is in
       subst (Reshaped nodes after (slots a ++ (i ∷ slots b)) top) (ap (λ t. fork i k v a t) e ∙ sym (ap (λ t. turn_left i k v a t) e)) written
 
 -- a left side turned up: first the node over its inner part and the right side, then its root over its outer part and that node
-module _ {K : Type 0} {nodes : List (Node K)} {i : ℕ} (k : K) (v : ℕ) {left right : Link} {j : ℕ} {n : Node K} (is : left ≡ At j) (read : n ≡ get_or nodes j n)
+module _ {K : Type 0} {nodes : List (Node K)} {i : ℕ} (k : K) (v : ℕ) {left right : Link} {j : ℕ} {n : Node K} (is : left ≡ Some j) (read : n ≡ get_or nodes j n)
     {a b : Avl K} (g : Joining 253 nodes i left right a b) where
   opened_left : Opened nodes j n a
   opened_left = reads nodes left j n a g.left_stands is read
@@ -121,7 +119,7 @@ module _ {K : Type 0} {nodes : List (Node K)} {i : ℕ} (k : K) (v : ℕ) {left 
         (λ m apart. let all = subst (Apart m) turned_slots_right apart in ((all_right (λ x. m ≡ x → ⊥) (slots opened_left.a) (j ∷ _) all).1, all)))
 
 -- a right side turned up: first the node over the left side and its inner part, then its root over that node and its outer part
-module _ {K : Type 0} {nodes : List (Node K)} {i : ℕ} (k : K) (v : ℕ) {left right : Link} {j : ℕ} {n : Node K} (is : right ≡ At j) (read : n ≡ get_or nodes j n)
+module _ {K : Type 0} {nodes : List (Node K)} {i : ℕ} (k : K) (v : ℕ) {left right : Link} {j : ℕ} {n : Node K} (is : right ≡ Some j) (read : n ≡ get_or nodes j n)
     {a b : Avl K} (g : Joining 253 nodes i left right a b) where
   opened_right : Opened nodes j n b
   opened_right = reads nodes right j n b g.right_stands is read

@@ -1,14 +1,13 @@
 -- Sides readied to come up, and nodes put in balance: what each step asks, and what it leaves.
-use Rattle.std.proofs.Common.{◌≡◌, ℕ, suc, ◌<◌, ◌≤◌, max, ltb, List, ◌∷◌, ◌++◌, length, get_or, sym, refl, ap, ◌∙◌, subst, arith}
+use Rattle.std.proofs.Common.{◌≡◌, ℕ, suc, ◌<◌, ◌≤◌, max, ltb, List, ◌∷◌, ◌++◌, length, get_or, sym, refl, ap, ◌∙◌, subst, arith, Some}
 use Rattle.std.proofs.lemmas.Bool.{cond_both, cond-true, cond-false, lt-ltb, le-ltb}
+use Rattle.digits.proofs.Every.{all_left, all_right}
 use Rattle.avl.specs.Avl.{Avl, tip, fork, height, slots, turn_right, turn_left, ready_left, ready_right, balance}
 use Rattle.avl.specs.Model.{Apart, Distinct}
 use Rattle.avl.proofs.Balance.{balance_is_right, balance_is_left, balance_is_fork}
 use Rattle.avl.proofs.Inorder.{ready_left_inorder, ready_right_inorder}
 use Rattle.avl.proofs.Slots.{Sides, sides}
-use Rattle.books.proofs.Cuts.{all_left, all_right}
-use Rattle.tree.specs.declared.nodes.Link.{Link}
-use Rattle.tree.specs.declared.nodes.Link.TheVariants.{At}
+use Rattle.tree.specs.Links.{Link}
 use Rattle.tree.specs.declared.nodes.Node.{Node}
 use Rattle.tree.specs.Shaping.{Joining, Joinable, Joins, Turns}
 use Rattle.tree.specs.Standing.{Stands, height_at, Reaches, Placed, HoldsATree, Reshaped}
@@ -16,7 +15,7 @@ use Rattle.tree.proofs.Standing.{Opened, reads, leads_inside, reaches, told_trul
 use Rattle.tree.proofs.Rotations.{both_steps, joins_left, joins_right, joins_within}
 
 -- the root of a side, read, over its two parts
-module _ {K : Type 0} {nodes : List (Node K)} {side : Link} {j : ℕ} {n : Node K} (is : side ≡ At j) (read : n ≡ get_or nodes j n) {t : Avl K} (p : Placed 251 nodes side t) where
+module _ {K : Type 0} {nodes : List (Node K)} {side : Link} {j : ℕ} {n : Node K} (is : side ≡ Some j) (read : n ≡ get_or nodes j n) {t : Avl K} (p : Placed 251 nodes side t) where
   opened_side : Opened nodes j n t
   opened_side = reads nodes side j n t p.stands is read
 
@@ -54,15 +53,15 @@ module _ {K : Type 0} {nodes : List (Node K)} {side : Link} {j : ℕ} {n : Node 
       subst (λ l. Reshaped nodes after l top u) (sym (ap slots opened_side.is)) (subst (Reshaped nodes after _ top) (sym e) (one opened_side.a opened_side.b parts_join))
 
   -- where none is, nothing changes
-  side_still : (u : Avl K) → u ≡ t → Reshaped nodes nodes (slots t) (At j) u
-  side_still u e = record { stands = subst (Stands nodes (At j)) (sym e) (subst (λ at. Stands nodes at t) is p.stands); frame = λ m apart. refl }
+  side_still : (u : Avl K) → u ≡ t → Reshaped nodes nodes (slots t) (Some j) u
+  side_still u e = record { stands = subst (Stands nodes (Some j)) (sym e) (subst (λ at. Stands nodes at t) is p.stands); frame = λ m apart. refl }
 
   pub readies_left : height_at nodes n.left < height_at nodes n.right → {after : List (Node K)} {top : Link} → Joins 253 (turn_left j n.key n.ticket) nodes j n.left n.right after top →
       Reshaped nodes after (slots t) top (ready_left t)
   readies_left lt {after} {top} one =
       side_turned (turn_left j n.key n.ticket) after top one (ready_left t) (ap ready_left opened_side.is ∙ cond-true _ _ _ (lt-ltb (height opened_side.a) (height opened_side.b) (omega (arith, left_told, right_told))))
 
-  pub left_is_ready : height_at nodes n.right ≤ height_at nodes n.left → Reshaped nodes nodes (slots t) (At j) (ready_left t)
+  pub left_is_ready : height_at nodes n.right ≤ height_at nodes n.left → Reshaped nodes nodes (slots t) (Some j) (ready_left t)
   left_is_ready le = side_still (ready_left t) (ap ready_left opened_side.is ∙ cond-false _ _ _ (le-ltb (height opened_side.a) (height opened_side.b) (omega (arith, left_told, right_told))) ∙ sym opened_side.is)
 
   pub readies_right : height_at nodes n.right < height_at nodes n.left → {after : List (Node K)} {top : Link} → Joins 253 (turn_right j n.key n.ticket) nodes j n.left n.right after top →
@@ -70,7 +69,7 @@ module _ {K : Type 0} {nodes : List (Node K)} {side : Link} {j : ℕ} {n : Node 
   readies_right lt {after} {top} one =
       side_turned (turn_right j n.key n.ticket) after top one (ready_right t) (ap ready_right opened_side.is ∙ cond-true _ _ _ (lt-ltb (height opened_side.b) (height opened_side.a) (omega (arith, left_told, right_told))))
 
-  pub right_is_ready : height_at nodes n.left ≤ height_at nodes n.right → Reshaped nodes nodes (slots t) (At j) (ready_right t)
+  pub right_is_ready : height_at nodes n.left ≤ height_at nodes n.right → Reshaped nodes nodes (slots t) (Some j) (ready_right t)
   right_is_ready le = side_still (ready_right t) (ap ready_right opened_side.is ∙ cond-false _ _ _ (le-ltb (height opened_side.b) (height opened_side.a) (omega (arith, left_told, right_told))) ∙ sym opened_side.is)
 
 -- a turn makes a node higher by one at most

@@ -1,15 +1,14 @@
 -- A tree that can change, its root read: its two sides, each of which can change by itself.
-use Rattle.std.proofs.Common.{◌≡◌, ℕ, List, ◌∷◌, ap, subst, arith}
+use Rattle.std.proofs.Common.{◌≡◌, ℕ, List, ◌∷◌, ap, subst, arith, Some}
 use Rattle.avl.specs.Avl.{Avl, height, Balanced, slots}
 use Rattle.avl.specs.Model.{Distinct}
 use Rattle.avl.proofs.Slots.{Split, split}
-use Rattle.tree.specs.declared.nodes.Link.{Link}
-use Rattle.tree.specs.declared.nodes.Link.TheVariants.{At}
+use Rattle.tree.specs.Links.{Link}
 use Rattle.tree.specs.declared.nodes.Node.{Node}
 use Rattle.tree.specs.Changes.{Spot, Changing, Siding}
 use Rattle.tree.proofs.Standing.{Opened, leads_inside}
 
-pub opened_sides : {K : Type 0} (nodes : List (Node K)) (at slot : Link) (i : ℕ) (n : Node K) (t : Avl K) → Changing nodes at slot t → at ≡ At i → (o : Opened nodes i n t) → Siding nodes i n.left n.right o.a o.b
+pub opened_sides : {K : Type 0} (nodes : List (Node K)) (at slot : Link) (i : ℕ) (n : Node K) (t : Avl K) → Changing nodes at slot t → at ≡ Some i → (o : Opened nodes i n t) → Siding nodes i n.left n.right o.a o.b
 opened_sides nodes at slot i n t c is o =
     let h = ap height o.is in
     let low = c.placed.low in

@@ -2,20 +2,19 @@
 use Rattle.std.proofs.Common.{◌≡◌, ℕ, zero, suc, ◌<◌, ◌≤◌, max, Bool, true, not, ◌&&◌, eqb, ltb, leb, List, [], ◌∷◌, length, Some, None, Decides, Option, sym, refl, ap, ◌∙◌, subst, arith}
 use Rattle.std.specs.List.{slice_get, AllByRecursion}
 use Rattle.std.proofs.lemmas.Bool.{and_parts, and_from, eqb-true, eq-eqb, leb-true, le-leb}
-use Rattle.std.proofs.lemmas.Bool.Decides.{Decides-eqb, Decides-ltb, Decides-not, Decides-and, Decides-like}
-use Rattle.std.proofs.ByRecursion.{Decides-by_and}
+use Rattle.std.proofs.lemmas.Bool.Decides.{Decides-eqb, Decides-ltb, Decides-not, Decides-and, Decides-like, Decides-by_and}
+use Rattle.std.proofs.lemmas.List.Elements.{All-from_recursion, recursion_from_All}
 use Rattle.books.specs.Meaning.{usable}
 use Rattle.books.proofs.Usable.{usable_within, usable_few}
 use Rattle.avl.specs.Avl.{Avl, tip, fork, height, size, Balanced}
 use Rattle.avl.specs.Model.{TreeModel, Apart, Distinct, Sound, new_tree}
 use Rattle.avl.proofs.Height.{low_in_slots}
 use Rattle.avl.proofs.Soundness.{size_within, new_sound}
-use Rattle.tree.specs.declared.nodes.Link.{Link}
-use Rattle.tree.specs.declared.nodes.Link.TheVariants.{Nil, At}
+use Rattle.tree.specs.Links.{Link}
 use Rattle.tree.specs.declared.nodes.Node.{Node}
 use Rattle.tree.specs.declared.states.State.{State}
 use Rattle.tree.specs.Standing.{link_of, node_of, Lies}
-use Rattle.tree.specs.States.{read_node, read_tree, tree_at, model_of, Chain, StandsSoundly, same_link, tells, lies, is_free, chained, balanced, apart, distinct, all_below, model_sound, sound_in, Means}
+use Rattle.tree.specs.States.{read_node, read_tree, tree_at, model_of, Chain, StandsSoundly, counted_state, same_link, tells, lies, is_free, chained, balanced, apart, distinct, all_below, model_sound, sound_in, Means}
 use Rattle.tree.proofs.Reading.{reads_tree, reads_free}
 
 -- each part of the test
@@ -23,21 +22,26 @@ use Rattle.tree.proofs.Reading.{reads_tree, reads_free}
 decides_leb : (a b : ℕ) → Decides (leb a b) (a ≤ b)
 decides_leb a b = (leb-true a b, le-leb a b)
 
+-- each element of a list passes a test that decides a fact of it
+decides_each : {X : Type 0} (p : X → Bool) (P : X → Type 0) (f : List X → Bool) → ((x : X) → Decides (p x) (P x)) → f [] ≡ true → ((x : X) (xs : List X) → f (x ∷ xs) ≡ (p x && f xs)) →
+    (xs : List X) → Decides (f xs) (AllByRecursion P xs)
+decides_each p P f each none more xs = let all = Decides-by_and p P f each none more xs in (λ e. recursion_from_All P xs (all.0 e), λ h. all.1 (All-from_recursion P xs h))
+
 decides_apart : (j : ℕ) (l : List ℕ) → Decides (apart j l) (Apart j l)
-decides_apart j = Decides-by_and (λ i. not (eqb j i)) (λ i. j ≡ i → ⊥) (apart j) (λ i. Decides-not (eqb j i) (Decides-eqb j i)) refl (λ _ _. refl)
+decides_apart j = decides_each (λ i. not (eqb j i)) (λ i. j ≡ i → ⊥) (apart j) (λ i. Decides-not (eqb j i) (Decides-eqb j i)) refl (λ _ _. refl)
 
 decides_distinct : (l : List ℕ) → Decides (distinct l) (Distinct l)
 decides_distinct [] = (λ _. tt, λ _. refl)
 decides_distinct (i ∷ l) = Decides-and (apart i l) (distinct l) (decides_apart i l) (decides_distinct l)
 
 decides_below : (n : ℕ) (l : List ℕ) → Decides (all_below n l) (AllByRecursion (λ i. i < n) l)
-decides_below n = Decides-by_and (λ i. ltb i n) (λ i. i < n) (all_below n) (λ i. Decides-ltb i n) refl (λ _ _. refl)
+decides_below n = decides_each (λ i. ltb i n) (λ i. i < n) (all_below n) (λ i. Decides-ltb i n) refl (λ _ _. refl)
 
 decides_link : (a b : Link) → Decides (same_link a b) (a ≡ b)
-decides_link Nil Nil = (λ _. refl, λ _. refl)
-decides_link Nil (At j) = (λ e. absurd (let z : ◌≡◌ {A = ℕ} 0 1 = cc in omega arith), λ e. absurd (let z : ◌≡◌ {A = ℕ} 0 1 = cc in omega arith))
-decides_link (At i) Nil = (λ e. absurd (let z : ◌≡◌ {A = ℕ} 0 1 = cc in omega arith), λ e. absurd (let z : ◌≡◌ {A = ℕ} 0 1 = cc in omega arith))
-decides_link (At i) (At j) = (λ e. ap At (eqb-true i j e), λ e. eq-eqb i j (cc))
+decides_link None None = (λ _. refl, λ _. refl)
+decides_link None (Some j) = (λ e. absurd (let z : ◌≡◌ {A = ℕ} 0 1 = cc in omega arith), λ e. absurd (let z : ◌≡◌ {A = ℕ} 0 1 = cc in omega arith))
+decides_link (Some i) None = (λ e. absurd (let z : ◌≡◌ {A = ℕ} 0 1 = cc in omega arith), λ e. absurd (let z : ◌≡◌ {A = ℕ} 0 1 = cc in omega arith))
+decides_link (Some i) (Some j) = (λ e. ap Some (eqb-true i j e), λ e. eq-eqb i j (cc))
 
 module _ {K : Type 0} where
   decides_balanced : (t : Avl K) → Decides (balanced t) (Balanced t)
@@ -65,8 +69,8 @@ module _ {K : Type 0} where
         (Decides-and _ _ (Decides-eqb n.height 0) (on n.left))
 
     decides_chained : (free : List ℕ) (at : Link) → Decides (chained nodes free at) (Chain nodes at free)
-    decides_chained [] at = decides_link at Nil
-    decides_chained (i ∷ free) at = Decides-and _ _ (decides_link at (At i)) (decides_free free (decides_chained free) (slice_get nodes i))
+    decides_chained [] at = decides_link at None
+    decides_chained (i ∷ free) at = Decides-and _ _ (decides_link at (Some i)) (decides_free free (decides_chained free) (slice_get nodes i))
 
     -- a tree that was read has the keys and tickets of its nodes, so links and heights are all there is to test
     tells_node : (n : Node K) (a b : Avl K) → tells (Some n) a b ≡ true → n ≡ node_of n.key n.ticket a b
@@ -90,8 +94,8 @@ module _ {K : Type 0} where
     read_lies : (depth : ℕ) (at : Link) → lies nodes (read_tree depth nodes at) ≡ true → Lies nodes (read_tree depth nodes at)
     unfolding read_tree
     read_lies zero at e = tt
-    read_lies (suc depth) Nil e = tt
-    read_lies (suc depth) (At i) e = node_lies i (read_tree depth nodes) (λ at h. read_lies depth at h) (slice_get nodes i) refl e
+    read_lies (suc depth) None e = tt
+    read_lies (suc depth) (Some i) e = node_lies i (read_tree depth nodes) (λ at h. read_lies depth at h) (slice_get nodes i) refl e
 
     tree_lies : (at : Link) → lies nodes (tree_at nodes at) ≡ true → Lies nodes (tree_at nodes at)
     unfolding tree_at
@@ -120,6 +124,11 @@ module _ {K : Type 0} where
           sound = (decides_sound (model_of nodes state) (usable_few (length nodes))).0 u.1;
         }
 
+    -- the count of comparisons is tested for nothing
+    pub sound_counted : (state : State) (n : ℕ) → sound_in nodes state ≡ true → sound_in nodes (counted_state state n) ≡ true
+    unfolding sound_in
+    sound_counted state n e = e
+
     model_read : (state : State) (m : TreeModel K) → StandsSoundly nodes state m → model_of nodes state ≡ m
     model_read state m s =
         let sound = s.sound in
@@ -146,7 +155,7 @@ module _ {K : Type 0} where
         }
 
     -- in any memory a new tree stands, with every slot unused
-    pub new_means : Means nodes (record { root = Nil; free = Nil; fresh = 0; held = 0; comparisons = 0 }) (new_tree (usable (length nodes)))
+    pub new_means : Means nodes (record { root = None; free = None; fresh = 0; held = 0; comparisons = 0 }) (new_tree (usable (length nodes)))
     new_means = means_from_stands _ _ (record {
       tree_stands = record { lies = tt; linked = refl };
       free_stands = refl;

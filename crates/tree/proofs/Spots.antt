@@ -1,19 +1,17 @@
 -- The slot for a new node: what is found of it, and that the tree can grow into it.
-use Rattle.std.proofs.Common.{◌≡◌, ℕ, suc, ◌+◌, ◌<◌, ◌≤◌, true, false, ltb, leb, ◌⊎◌, List, [], ◌∷◌, ◌++◌, length, get_or, sym, refl, ap, ◌∙◌, subst, inl, inr, arith}
+use Rattle.std.proofs.Common.{◌≡◌, ℕ, suc, ◌+◌, ◌<◌, ◌≤◌, true, false, ltb, leb, ◌⊎◌, List, [], ◌∷◌, ◌++◌, length, get_or, sym, refl, ap, ◌∙◌, subst, inl, inr, arith, Some, None}
 use Rattle.std.specs.List.{AllByRecursion}
-use Rattle.std.proofs.ByRecursion.{All-weaker}
 use Rattle.std.proofs.lemmas.Option.{slice_get-get_or}
 use Rattle.std.proofs.lemmas.Bool.{ltb-true, ltb-false, cond_both, cases_Bool}
+use Rattle.digits.proofs.Every.{all_weaker, all_left, all_right}
 use Rattle.books.specs.Meaning.{usable}
-use Rattle.books.proofs.Cuts.{all_left, all_right}
 use Rattle.books.proofs.Usable.{usable_within}
 use Rattle.avl.specs.Avl.{size, slots}
 use Rattle.avl.specs.Model.{TreeModel, next_slot, free_after, fresh_after, Distinct}
 use Rattle.avl.proofs.Height.{low_in_slots}
 use Rattle.avl.proofs.Slots.{split, crossed}
 use Rattle.avl.proofs.Soundness.{size_within}
-use Rattle.tree.specs.declared.nodes.Link.{Link}
-use Rattle.tree.specs.declared.nodes.Link.TheVariants.{Nil, At}
+use Rattle.tree.specs.Links.{Link}
 use Rattle.tree.specs.declared.nodes.Node.{Node}
 use Rattle.tree.specs.declared.states.State.{State}
 use Rattle.tree.specs.declared.states.Spot.{Spot as SpotFound}
@@ -28,14 +26,14 @@ usable_all n = cond_both (leb n 65535) n 0 (λ m. 0 < m → m ≡ n) (λ _ _. re
 
 module _ {K : Type 0} (nodes : List (Node K)) (state : State) (m : TreeModel K) (s : StandsSoundly nodes state m) where
   -- the slot freed most recently is in the memory, since it was used
-  pub freed_inside : (i : ℕ) → state.free ≡ At i → i < length nodes
+  pub freed_inside : (i : ℕ) → state.free ≡ Some i → i < length nodes
   freed_inside i is = by m.free s.free_stands
     where
       by : (free : List ℕ) → Chain nodes state.free free → i < length nodes
       by [] c = absurd (let z : ◌≡◌ {A = ℕ} 0 1 = cc in omega arith)
       by (j ∷ free) c = let at = c.0 in let here : j ≡ i = cc in subst (λ j. j < length nodes) here (nth_below nodes j c.1.0 c.1.1.0)
 
-  pub next_freed : (i : ℕ) (d : Node K) → state.free ≡ At i → NextSpot nodes m (record { slot = state.free; free = (get_or nodes i d).left; fresh = state.fresh })
+  pub next_freed : (i : ℕ) (d : Node K) → state.free ≡ Some i → NextSpot nodes m (record { slot = state.free; free = (get_or nodes i d).left; fresh = state.fresh })
   next_freed i d is = by m.free refl s.free_stands
     where
       by : (free : List ℕ) → m.free ≡ free → Chain nodes state.free free → NextSpot nodes m (record { slot = state.free; free = (get_or nodes i d).left; fresh = state.fresh })
@@ -49,13 +47,13 @@ module _ {K : Type 0} (nodes : List (Node K)) (state : State) (m : TreeModel K) 
           let more = ap length e in
           record {
             full = λ f. absurd (let le = ltb-false _ _ f in omega arith);
-            slot = λ _. at ∙ ap (λ l. At (next_slot l m.fresh)) (sym e);
+            slot = λ _. at ∙ ap (λ l. Some (next_slot l m.fresh)) (sym e);
             free = λ _. subst (λ l. Chain nodes (get_or nodes i d).left (free_after l)) (sym e) (subst (λ (q : Node K). Chain nodes q.left free) same c.1.1.2);
             fresh = λ _. s.fresh_is ∙ ap (λ l. fresh_after l m.fresh) (sym e);
           }
 
   -- with no slot free, those below `fresh` are all in use
-  none_free : state.free ≡ Nil → m.free ≡ []
+  none_free : state.free ≡ None → m.free ≡ []
   none_free is = by m.free s.free_stands
     where
       by : (free : List ℕ) → Chain nodes state.free free → free ≡ []
@@ -63,7 +61,7 @@ module _ {K : Type 0} (nodes : List (Node K)) (state : State) (m : TreeModel K) 
       by (j ∷ free) c = absurd (let at = c.0 in let z : ◌≡◌ {A = ℕ} 0 1 = cc in omega arith)
 
   -- the lowest slot never used
-  pub next_unused : state.free ≡ Nil → 0 < usable (length nodes) → state.fresh < length nodes → NextSpot nodes m (record { slot = At state.fresh; free = Nil; fresh = state.fresh + 1 })
+  pub next_unused : state.free ≡ None → 0 < usable (length nodes) → state.fresh < length nodes → NextSpot nodes m (record { slot = Some state.fresh; free = None; fresh = state.fresh + 1 })
   next_unused is some left =
       let none = none_free is in
       let all = usable_all (length nodes) some in
@@ -71,12 +69,12 @@ module _ {K : Type 0} (nodes : List (Node K)) (state : State) (m : TreeModel K) 
       let high = s.fresh_is in
       record {
         full = λ f. absurd (let le = ltb-false _ _ f in omega arith);
-        slot = λ _. ap At s.fresh_is ∙ ap (λ l. At (next_slot l m.fresh)) (sym none);
-        free = λ _. subst (λ l. Chain nodes Nil (free_after l)) (sym none) refl;
+        slot = λ _. ap Some s.fresh_is ∙ ap (λ l. Some (next_slot l m.fresh)) (sym none);
+        free = λ _. subst (λ l. Chain nodes None (free_after l)) (sym none) refl;
         fresh = λ _. (let e : state.fresh + 1 ≡ suc m.fresh = omega arith in e) ∙ ap (λ l. fresh_after l m.fresh) (sym none);
       }
 
-  pub none_left : state.free ≡ Nil → 0 < usable (length nodes) → length nodes ≤ state.fresh → NextSpot nodes m (record { slot = Nil; free = Nil; fresh = state.fresh })
+  pub none_left : state.free ≡ None → 0 < usable (length nodes) → length nodes ≤ state.fresh → NextSpot nodes m (record { slot = None; free = None; fresh = state.fresh })
   none_left is some full =
       let none = none_free is in
       let all = usable_all (length nodes) some in
@@ -94,19 +92,19 @@ module _ {K : Type 0} (nodes : List (Node K)) (state : State) (m : TreeModel K) 
   changing : (slot : Link) → Spot nodes slot m.tree → Changing nodes state.root slot m.tree
   changing slot fits = record { placed = tree_placed 100 (omega arith); balanced = s.sound.balanced; spot = fits }
 
-  pub can_shrink : Changing nodes state.root Nil m.tree
-  can_shrink = changing Nil tt
+  pub can_shrink : Changing nodes state.root None m.tree
+  can_shrink = changing None tt
 
   -- the next slot is in the memory, and not in the tree
-  next_fits : ltb (size m.tree) m.room ≡ true → Spot nodes (At (next_slot m.free m.fresh)) m.tree
+  next_fits : ltb (size m.tree) m.room ≡ true → Spot nodes (Some (next_slot m.free m.fresh)) m.tree
   next_fits some = by m.free s.sound.distinct s.sound.below s.sound.all_used
     where
       by : (free : List ℕ) → Distinct (slots m.tree ++ free) → AllByRecursion (λ i. i < m.fresh) (slots m.tree ++ free) → size m.tree + length free ≡ m.fresh →
-          Spot nodes (At (next_slot free m.fresh)) m.tree
+          Spot nodes (Some (next_slot free m.fresh)) m.tree
       by [] d below used =
           let within = usable_within (length nodes) in
           let lt = ltb-true _ _ some in
-          (omega arith, All-weaker (λ i. i < m.fresh) (λ i. m.fresh ≡ i → ⊥) (λ i lt e. omega arith) (slots m.tree) (all_left (λ i. i < m.fresh) (slots m.tree) [] below))
+          (omega arith, all_weaker (λ i. i < m.fresh) (λ i. m.fresh ≡ i → ⊥) (λ i lt e. omega arith) (slots m.tree) (all_left (λ i. i < m.fresh) (slots m.tree) [] below))
       by (i ∷ free) d below used =
           let within = usable_within (length nodes) in
           let lt = (all_right (λ i. i < m.fresh) (slots m.tree) (i ∷ free) below).0 in

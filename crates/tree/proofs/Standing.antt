@@ -1,13 +1,11 @@
 -- Trees that stand in node memory: what a node that is read tells of them, and what keeps them standing.
-use Rattle.std.proofs.Common.{◌≡◌, ℕ, zero, suc, ◌<◌, List, [], ◌∷◌, length, get_or, set, Some, sym, refl, ap, ◌∙◌, subst, arith}
+use Rattle.std.proofs.Common.{◌≡◌, ℕ, zero, suc, ◌<◌, List, [], ◌∷◌, length, get_or, set, Some, sym, refl, ap, ◌∙◌, subst, arith, None}
 use Rattle.std.specs.List.{slice_get, AllByRecursion}
-use Rattle.std.proofs.ByRecursion.{All-weaker}
 use Rattle.std.proofs.lemmas.Option.{slice_get_read}
+use Rattle.digits.proofs.Every.{all_weaker, all_left, all_right}
 use Rattle.avl.specs.Avl.{Avl, tip, fork, height, slots}
 use Rattle.avl.specs.Model.{Apart}
-use Rattle.books.proofs.Cuts.{all_left, all_right}
-use Rattle.tree.specs.declared.nodes.Link.{Link}
-use Rattle.tree.specs.declared.nodes.Link.TheVariants.{Nil, At}
+use Rattle.tree.specs.Links.{Link}
 use Rattle.tree.specs.declared.nodes.Node.{Node}
 use Rattle.tree.specs.Standing.{link_of, node_of, Lies, Stands, told_height, height_at, Reaches}
 
@@ -40,11 +38,11 @@ pub record Opened {K : Type 0} (nodes : List (Node K)) (i : ℕ) (n : Node K) (t
   pub told : n.height ≡ height t
 
 -- a link is to a slot or to nothing
-never_both : {X : Type 0} (i : ℕ) → At i ≡ Nil → X
+never_both : {X : Type 0} (i : ℕ) → Some i ≡ None → X
 never_both i e = absurd (let z : ◌≡◌ {A = ℕ} 0 1 = cc in omega arith)
 
 module _ {K : Type 0} where
-  opens : (nodes : List (Node K)) (i : ℕ) (n : Node K) (t : Avl K) → Lies nodes t → At i ≡ link_of t → slice_get nodes i ≡ Some n → Opened nodes i n t
+  opens : (nodes : List (Node K)) (i : ℕ) (n : Node K) (t : Avl K) → Lies nodes t → Some i ≡ link_of t → slice_get nodes i ≡ Some n → Opened nodes i n t
   opens nodes i n tip h at read = never_both i at
   opens nodes i n (fork j k v a b) h at read =
       let here : i ≡ j = cc in
@@ -58,26 +56,26 @@ module _ {K : Type 0} where
         told = ap (λ (m : Node K). m.height) same;
       }
 
-  pub opened : (nodes : List (Node K)) (at : Link) (i : ℕ) (n : Node K) (t : Avl K) → Stands nodes at t → at ≡ At i → slice_get nodes i ≡ Some n → Opened nodes i n t
+  pub opened : (nodes : List (Node K)) (at : Link) (i : ℕ) (n : Node K) (t : Avl K) → Stands nodes at t → at ≡ Some i → slice_get nodes i ≡ Some n → Opened nodes i n t
   opened nodes at i n t s is read = opens nodes i n t s.lies (sym is ∙ s.linked) read
 
   -- the same of an element that the code has read
-  root_below : (nodes : List (Node K)) (i : ℕ) (t : Avl K) → Lies nodes t → At i ≡ link_of t → i < length nodes
+  root_below : (nodes : List (Node K)) (i : ℕ) (t : Avl K) → Lies nodes t → Some i ≡ link_of t → i < length nodes
   root_below nodes i tip h at = never_both i at
   root_below nodes i (fork j k v a b) h at = let here : i ≡ j = cc in subst (λ m. m < length nodes) (sym here) (nth_below nodes j _ h.0)
 
-  pub leads_inside : (nodes : List (Node K)) (at : Link) (i : ℕ) (t : Avl K) → Stands nodes at t → at ≡ At i → i < length nodes
+  pub leads_inside : (nodes : List (Node K)) (at : Link) (i : ℕ) (t : Avl K) → Stands nodes at t → at ≡ Some i → i < length nodes
   leads_inside nodes at i t s is = root_below nodes i t s.lies (sym is ∙ s.linked)
 
-  pub reads : (nodes : List (Node K)) (at : Link) (i : ℕ) (n : Node K) (t : Avl K) → Stands nodes at t → at ≡ At i → n ≡ get_or nodes i n → Opened nodes i n t
+  pub reads : (nodes : List (Node K)) (at : Link) (i : ℕ) (n : Node K) (t : Avl K) → Stands nodes at t → at ≡ Some i → n ≡ get_or nodes i n → Opened nodes i n t
   reads nodes at i n t s is read = opened nodes at i n t s is (slice_get_read nodes (length nodes) i n refl (leads_inside nodes at i t s is) read)
 
   -- a link to nothing has no tree
-  pub absent : (nodes : List (Node K)) (at : Link) (t : Avl K) → Stands nodes at t → at ≡ Nil → t ≡ tip
+  pub absent : (nodes : List (Node K)) (at : Link) (t : Avl K) → Stands nodes at t → at ≡ None → t ≡ tip
   absent nodes at tip s is = refl
   absent nodes at (fork i k v a b) s is = never_both i (sym s.linked ∙ is)
 
-  pub nothing_stands : (nodes : List (Node K)) → Stands nodes Nil tip
+  pub nothing_stands : (nodes : List (Node K)) → Stands nodes None tip
   nothing_stands nodes = record { lies = tt; linked = refl }
 
   reaches_root : (nodes : List (Node K)) (t : Avl K) → Lies nodes t → Reaches nodes (link_of t)
@@ -121,4 +119,4 @@ module _ {K : Type 0} where
 
   -- so does a tree apart from all slots that changed
   pub stands_apart : (nodes after : List (Node K)) (used : List ℕ) (at : Link) (t : Avl K) → ((j : ℕ) → Apart j used → slice_get after j ≡ slice_get nodes j) → AllByRecursion (λ j. Apart j used) (slots t) → Stands nodes at t → Stands after at t
-  stands_apart nodes after used at t frame apart s = stands_still nodes after at t (All-weaker (λ j. Apart j used) (λ j. slice_get after j ≡ slice_get nodes j) frame (slots t) apart) s
+  stands_apart nodes after used at t frame apart s = stands_still nodes after at t (all_weaker (λ j. Apart j used) (λ j. slice_get after j ≡ slice_get nodes j) frame (slots t) apart) s

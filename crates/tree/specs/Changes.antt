@@ -8,8 +8,7 @@ use Rattle.tree.specs.declared.changes.Joint.{Joint}
 use Rattle.tree.specs.declared.changes.Least.{Least}
 use Rattle.tree.specs.declared.changes.Removal.{Removal}
 use Rattle.tree.specs.declared.changes.Gone.{Gone}
-use Rattle.tree.specs.declared.nodes.Link.{Link}
-use Rattle.tree.specs.declared.nodes.Link.TheVariants.{Nil, At}
+use Rattle.tree.specs.Links.{Link}
 use Rattle.tree.specs.declared.nodes.Node.{Node}
 use Rattle.tree.specs.Shaping.{Joining}
 use Rattle.tree.specs.Standing.{Placed, Reshaped}
@@ -18,8 +17,8 @@ use Rattle.keys.specs.declared.refusals.Refusal.TheVariants.{KeyHeld, BookFull}
 
 -- a slot for a new node, if there is one: it is in the memory, and not in the tree
 abbrev pub Spot : {K : Type 0} → List (Node K) → Link → Avl K → Type 0
-Spot nodes Nil t = Unit {0}
-Spot nodes (At s) t = (s < length nodes) × Apart s (slots t)
+Spot nodes None t = Unit {0}
+Spot nodes (Some s) t = (s < length nodes) × Apart s (slots t)
 
 -- a tree that can grow or shrink, by a slot or without one
 pub record Changing {K : Type 0} (nodes : List (Node K)) (at slot : Link) (t : Avl K) : Type 0 where
@@ -33,8 +32,8 @@ Changeable {K} nodes at slot = (t : Avl K) × Changing nodes at slot t
 -- by the ticket found and the slot to use, what an insertion answers and leaves
 abbrev pub GrownBy : {K : Type 0} → (K → K → Ordering) → Option ℕ → Link → List (Node K) → Avl K → K → ℕ → List (Node K) → Result Link Refusal → Type 0
 GrownBy order (Some held) slot nodes t k v after top = (top ≡ Err KeyHeld) × (after ≡ nodes)
-GrownBy order None Nil nodes t k v after top = (top ≡ Err BookFull) × (after ≡ nodes)
-GrownBy order None (At s) nodes t k v after top = (at : Link) × ((top ≡ Ok at) × Reshaped nodes after (s ∷ slots t) at (insert order t k v s))
+GrownBy order None None nodes t k v after top = (top ≡ Err BookFull) × (after ≡ nodes)
+GrownBy order None (Some s) nodes t k v after top = (at : Link) × ((top ≡ Ok at) × Reshaped nodes after (s ∷ slots t) at (insert order t k v s))
 
 pub record Inserted {K : Type 0} (order : K → K → Ordering) (nodes : List (Node K)) (slot : Link) (t : Avl K) (k : K) (v : ℕ) (after : List (Node K)) (r : Insertion) : Type 0 where
   pub comparisons : r.comparisons ≡ path false order t k
@@ -51,7 +50,7 @@ pub record LeastGone {K : Type 0} (nodes : List (Node K)) (i : ℕ) (k : K) (v :
   pub left : Reshaped nodes after (slots (fork i k v a b)) r.top (without_least i k v a b)
 
 abbrev pub TakesTheLeast : {K : Type 0} → List (Node K) → ℕ → List (Node K) → Least K → Type 0
-TakesTheLeast {K} nodes i after r = (k : K) (v : ℕ) (a b : Avl K) → Changing nodes (At i) Nil (fork i k v a b) → LeastGone nodes i k v a b after r
+TakesTheLeast {K} nodes i after r = (k : K) (v : ℕ) (a b : Avl K) → Changing nodes (Some i) None (fork i k v a b) → LeastGone nodes i k v a b after r
 
 -- the two sides of a node, of which both can shrink
 pub record Siding {K : Type 0} (nodes : List (Node K)) (i : ℕ) (left right : Link) (a b : Avl K) : Type 0 where
@@ -81,4 +80,4 @@ pub record Removed {K : Type 0} (order : K → K → Ordering) (nodes : List (No
   pub outcome : ShrunkBy order (find order t s) nodes t s after r.gone
 
 abbrev pub Removes : {K : Type 0} → (K → K → Ordering) → List (Node K) → Link → K → List (Node K) → Removal → Type 0
-Removes {K} order nodes at s after r = (t : Avl K) → Changing nodes at Nil t → Removed order nodes t s after r
+Removes {K} order nodes at s after r = (t : Avl K) → Changing nodes at None t → Removed order nodes t s after r

@@ -4,7 +4,7 @@ use Rattle.std.specs.declared.cmp.Ordering.{Ordering}
 use Rattle.avl.specs.Avl.{Avl, find, seek, path}
 use Rattle.tree.specs.declared.descents.Finding.{Finding}
 use Rattle.tree.specs.declared.descents.Seeking.{Seeking}
-use Rattle.tree.specs.declared.nodes.Link.{Link}
+use Rattle.tree.specs.Links.{Link}
 use Rattle.tree.specs.declared.nodes.Node.{Node}
 use Rattle.tree.specs.Standing.{Placed}
 

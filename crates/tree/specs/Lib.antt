@@ -1,3 +1,4 @@
+pub mod Links
 pub mod Blank
 pub mod Standing
 pub mod Shaping

@@ -2,22 +2,11 @@
 use Rattle.std.specs.Prelude.{ℕ, suc, max, cond, List, [], ◌∷◌, Some, None, Option, ◌==◌}
 use Rattle.std.specs.Option.{option_or}
 use Rattle.avl.specs.Avl.{Avl, tip, fork, height}
-use Rattle.tree.specs.declared.nodes.Link.{Link}
-use Rattle.tree.specs.declared.nodes.Link.TheVariants.{Nil, At}
+use Rattle.tree.specs.Standing.{link_of}
 use Rattle.tree.specs.declared.shapes.Shape.{Shape}
 
--- the slot that a link leads to
-abbrev pub option_of : Link → Option ℕ
-option_of Nil = None
-option_of (At i) = Some i
-
--- the root's slot
-abbrev pub root_slot : {K : Type 0} → Avl K → Option ℕ
-root_slot tip = None
-root_slot (fork i k v a b) = Some i
-
 abbrev pub shape_of : {K : Type 0} → ℕ → Avl K → Avl K → Shape
-shape_of v a b = record { left = root_slot a; right = root_slot b; height = suc (max (height a) (height b)); ticket = v }
+shape_of v a b = record { left = link_of a; right = link_of b; height = suc (max (height a) (height b)); ticket = v }
 
 -- what slot j shows, if it holds a pair
 abbrev pub shape_at : {K : Type 0} → Avl K → ℕ → Option Shape

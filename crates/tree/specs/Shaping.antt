@@ -2,7 +2,7 @@
 use Rattle.std.specs.Prelude.{ℕ, ◌<◌, ◌≤◌, List, ◌∷◌, ◌++◌, length}
 use Rattle.avl.specs.Avl.{Avl, height, slots}
 use Rattle.avl.specs.Model.{Distinct}
-use Rattle.tree.specs.declared.nodes.Link.{Link}
+use Rattle.tree.specs.Links.{Link}
 use Rattle.tree.specs.declared.nodes.Node.{Node}
 use Rattle.tree.specs.Standing.{Stands, Placed, Reshaped}
 

@@ -3,14 +3,13 @@ use Rattle.std.specs.Prelude.{◌≡◌, ℕ, suc, ◌<◌, ◌≤◌, max, List
 use Rattle.std.specs.List.{slice_get}
 use Rattle.avl.specs.Avl.{Avl, tip, fork, height, slots}
 use Rattle.avl.specs.Model.{Apart, Distinct}
-use Rattle.tree.specs.declared.nodes.Link.{Link}
-use Rattle.tree.specs.declared.nodes.Link.TheVariants.{Nil, At}
+use Rattle.tree.specs.Links.{Link}
 use Rattle.tree.specs.declared.nodes.Node.{Node}
 
 -- the link to a tree: its root's slot
 abbrev pub link_of : {K : Type 0} → Avl K → Link
-link_of tip = Nil
-link_of (fork i k v a b) = At i
+link_of tip = None
+link_of (fork i k v a b) = Some i
 
 -- the node over two sides
 abbrev pub node_of : {K : Type 0} → K → ℕ → Avl K → Avl K → Node K
@@ -32,13 +31,13 @@ told_height None = 0
 told_height (Some n) = n.height
 
 abbrev pub height_at : {K : Type 0} → List (Node K) → Link → ℕ
-height_at nodes Nil = 0
-height_at nodes (At i) = told_height (slice_get nodes i)
+height_at nodes None = 0
+height_at nodes (Some i) = told_height (slice_get nodes i)
 
 -- a link leads into the memory
 abbrev pub Reaches : {K : Type 0} → List (Node K) → Link → Type 0
-Reaches nodes Nil = Unit {0}
-Reaches nodes (At i) = i < length nodes
+Reaches nodes None = Unit {0}
+Reaches nodes (Some i) = i < length nodes
 
 -- the tree stands at a link, its slots are distinct, and it is at most so high
 pub record Placed {K : Type 0} (limit : ℕ) (nodes : List (Node K)) (at : Link) (t : Avl K) : Type 0 where

@@ -1,12 +1,12 @@
 -- What node memory and a tree's numbers mean: the tree, the free slots, and that all is sound.
 use Rattle.std.specs.Prelude.{◌≡◌, ℕ, zero, suc, ◌+◌, max, Bool, true, false, not, ◌&&◌, ltb, List, [], ◌∷◌, ◌++◌, length, Some, None, Option, ◌==◌, nat_le, nat_lt, slice_set}
 use Rattle.std.specs.List.{slice_get}
+use Rattle.std.specs.Option.{option_eq}
 use Rattle.books.specs.Calls.{Call, SeekFrom, SeekAfter}
 use Rattle.books.specs.Meaning.{usable}
 use Rattle.avl.specs.Avl.{Avl, tip, fork, height, size, slots}
 use Rattle.avl.specs.Model.{TreeModel, Sound, next_slot, free_after, fresh_after}
-use Rattle.tree.specs.declared.nodes.Link.{Link}
-use Rattle.tree.specs.declared.nodes.Link.TheVariants.{Nil, At}
+use Rattle.tree.specs.Links.{Link}
 use Rattle.tree.specs.declared.nodes.Node.{Node}
 use Rattle.tree.specs.declared.states.Spot.{Spot}
 use Rattle.tree.specs.declared.states.State.{State}
@@ -19,8 +19,8 @@ read_node i (Some n) side = fork i n.key n.ticket (side n.left) (side n.right)
 
 unfoldable pub read_tree : {K : Type 0} → ℕ → List (Node K) → Link → Avl K
 read_tree zero nodes at = tip
-read_tree (suc depth) nodes Nil = tip
-read_tree (suc depth) nodes (At i) = read_node i (slice_get nodes i) (read_tree depth nodes)
+read_tree (suc depth) nodes None = tip
+read_tree (suc depth) nodes (Some i) = read_node i (slice_get nodes i) (read_tree depth nodes)
 
 unfoldable pub tree_at : {K : Type 0} → List (Node K) → Link → Avl K
 tree_at nodes at = read_tree 100 nodes at
@@ -32,8 +32,8 @@ read_link i (Some n) rest = i ∷ rest n.left
 
 unfoldable pub read_free : {K : Type 0} → ℕ → List (Node K) → Link → List ℕ
 read_free zero nodes at = []
-read_free (suc most) nodes Nil = []
-read_free (suc most) nodes (At i) = read_link i (slice_get nodes i) (read_free most nodes)
+read_free (suc most) nodes None = []
+read_free (suc most) nodes (Some i) = read_link i (slice_get nodes i) (read_free most nodes)
 
 unfoldable pub free_at : {K : Type 0} → List (Node K) → Link → List ℕ
 free_at nodes at = read_free (length nodes) nodes at
@@ -59,7 +59,7 @@ seek_call true s = SeekAfter s
 
 -- a free slot's node: height 0, and a link to the slot freed before it
 abbrev pub free_node : {K : Type 0} → Node K → Link → Node K
-free_node n next = record { key = n.key; ticket = 0; left = next; right = Nil; height = 0 }
+free_node n next = record { key = n.key; ticket = 0; left = next; right = None; height = 0 }
 
 -- slot i became free: its node leads on to the slots freed before it
 pub record MadeFree {K : Type 0} (nodes : List (Node K)) (i : ℕ) (next : Link) (after : List (Node K)) : Type 0 where
@@ -69,8 +69,8 @@ pub record MadeFree {K : Type 0} (nodes : List (Node K)) (i : ℕ) (next : Link)
 
 -- the free slots stand in memory as a list
 abbrev pub Chain : {K : Type 0} → List (Node K) → Link → List ℕ → Type 0
-Chain nodes at [] = at ≡ Nil
-Chain {K} nodes at (i ∷ free) = (at ≡ At i) × ((n : Node K) × ((slice_get nodes i ≡ Some n) × (n.height ≡ 0) × Chain nodes n.left free))
+Chain nodes at [] = at ≡ None
+Chain {K} nodes at (i ∷ free) = (at ≡ Some i) × ((n : Node K) × ((slice_get nodes i ≡ Some n) × (n.height ≡ 0) × Chain nodes n.left free))
 
 -- the tree and the free slots stand in memory, and the model is sound
 pub record StandsSoundly {K : Type 0} (nodes : List (Node K)) (state : State) (m : TreeModel K) : Type 0 where
@@ -84,10 +84,7 @@ pub record StandsSoundly {K : Type 0} (nodes : List (Node K)) (state : State) (m
 
 -- The same as a test, so that a tree can carry it as its invariant.
 abbrev pub same_link : Link → Link → Bool
-same_link Nil Nil = true
-same_link Nil (At j) = false
-same_link (At i) Nil = false
-same_link (At i) (At j) = i == j
+same_link a b = option_eq (λ i j. i == j) a b
 
 abbrev pub tells : {K : Type 0} → Option (Node K) → Avl K → Avl K → Bool
 tells None a b = false
@@ -102,8 +99,8 @@ is_free None rest = false
 is_free (Some n) rest = n.height == 0 && rest n.left
 
 abbrev pub chained : {K : Type 0} → List (Node K) → List ℕ → Link → Bool
-chained nodes [] at = same_link at Nil
-chained nodes (i ∷ free) at = same_link at (At i) && is_free (slice_get nodes i) (chained nodes free)
+chained nodes [] at = same_link at None
+chained nodes (i ∷ free) at = same_link at (Some i) && is_free (slice_get nodes i) (chained nodes free)
 
 abbrev pub balanced : {K : Type 0} → Avl K → Bool
 balanced tip = true
@@ -139,7 +136,7 @@ pub record Means {K : Type 0} (nodes : List (Node K)) (state : State) (m : TreeM
 
 -- where a new node goes, if there is a slot, and what is free and never used then
 pub record NextSpot {K : Type 0} (nodes : List (Node K)) (m : TreeModel K) (spot : Spot) : Type 0 where
-  pub full : ltb (size m.tree) m.room ≡ false → spot.slot ≡ Nil
-  pub slot : ltb (size m.tree) m.room ≡ true → spot.slot ≡ At (next_slot m.free m.fresh)
+  pub full : ltb (size m.tree) m.room ≡ false → spot.slot ≡ None
+  pub slot : ltb (size m.tree) m.room ≡ true → spot.slot ≡ Some (next_slot m.free m.fresh)
   pub free : ltb (size m.tree) m.room ≡ true → Chain nodes spot.free (free_after m.free)
   pub fresh : ltb (size m.tree) m.room ≡ true → spot.fresh ≡ fresh_after m.free m.fresh

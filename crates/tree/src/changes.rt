@@ -4,7 +4,6 @@ ghost use Rattle.std.specs.Prelude.{None};
 ghost use Rattle.avl.specs.Avl.{balance, tip};
 ghost use Rattle.tree.specs.Changes.{Spot, GrownBy, Changeable, Inserts, TakesTheLeast, Sided, JoinsUp, Removes};
 ghost use Rattle.tree.specs.Shaping.{Joinable, Joins};
-ghost use Rattle.tree.specs.declared.nodes.Link.TheVariants.{Nil, At};
 
 use crate::nodes::{Link, Node};
 use crate::shaping::{put, settle};
@@ -61,11 +60,11 @@ pub(crate) fn insert<K: OrderedKey>(
     ensures { Inserts K.OrderedKey.order nodes.old at slot key.now ticket nodes.new result }
 {
     match at {
-        Link::Nil => Insertion {
+        None => Insertion {
             top: new_leaf(nodes, key, ticket, slot),
             comparisons: 0,
         },
-        Link::At(i) => {
+        Some(i) => {
             let n = nodes[i as usize];
             match key.compare(&n.key) {
                 Ordering::Less => {
@@ -122,8 +121,8 @@ fn new_leaf<K: OrderedKey>(
     ensures { GrownBy K.OrderedKey.order None slot nodes.old tip key.now ticket nodes.new result }
 {
     match slot {
-        Link::Nil => Err(Refusal::BookFull),
-        Link::At(s) => Ok(put(nodes, s, *key, ticket, Link::Nil, Link::Nil)),
+        None => Err(Refusal::BookFull),
+        Some(s) => Ok(put(nodes, s, *key, ticket, None, None)),
     }
 }
 
@@ -145,18 +144,18 @@ fn settle_again<K: Copy>(
 
 // Takes the least pair out of the tree whose root is in slot `i`.
 fn take_least<K: Copy>(nodes: &mut [Node<K>], i: u16) -> Least<K>
-    requires { Changeable nodes.old (At i) Nil }
+    requires { Changeable nodes.old (Some i) None }
     ensures { TakesTheLeast nodes.old i nodes.new result }
 {
     let n = nodes[i as usize];
     match n.left {
-        Link::Nil => Least {
+        None => Least {
             key: n.key,
             ticket: n.ticket,
             slot: i,
             top: n.right,
         },
-        Link::At(j) => {
+        Some(j) => {
             let least = take_least(nodes, j);
             let top = settle_again(nodes, i, n.key, n.ticket, least.top, n.right);
             Least {
@@ -176,13 +175,13 @@ fn join<K: Copy>(nodes: &mut [Node<K>], i: u16, left: Link, right: Link) -> Join
     ensures { JoinsUp nodes.old i left right nodes.new result }
 {
     match left {
-        Link::Nil => Joint {
+        None => Joint {
             top: right,
             slot: i,
         },
-        Link::At(_) => match right {
-            Link::Nil => Joint { top: left, slot: i },
-            Link::At(m) => {
+        Some(_) => match right {
+            None => Joint { top: left, slot: i },
+            Some(m) => {
                 let least = take_least(nodes, m);
                 let top = settle(nodes, i, least.key, least.ticket, left, least.top);
                 Joint {
@@ -196,15 +195,15 @@ fn join<K: Copy>(nodes: &mut [Node<K>], i: u16, left: Link, right: Link) -> Join
 
 /// Takes the pair of a key out of the tree at a link.
 pub(crate) fn remove<K: OrderedKey>(nodes: &mut [Node<K>], at: Link, key: &K) -> Removal
-    requires { Changeable nodes.old at Nil }
+    requires { Changeable nodes.old at None }
     ensures { Removes K.OrderedKey.order nodes.old at key.now nodes.new result }
 {
     match at {
-        Link::Nil => Removal {
+        None => Removal {
             gone: None,
             comparisons: 0,
         },
-        Link::At(i) => {
+        Some(i) => {
             let n = nodes[i as usize];
             match key.compare(&n.key) {
                 Ordering::Less => {

@@ -29,7 +29,7 @@ pub(crate) fn find_below<K: OrderedKey>(nodes: &[Node<K>], root: Link, key: &K) 
 {
     let mut at = root;
     let mut comparisons = 0;
-    while let Link::At(i) = at {
+    while let Some(i) = at {
         let n = &nodes[i as usize];
         comparisons += 1;
         match key.compare(&n.key) {
@@ -62,7 +62,7 @@ pub(crate) fn seek_below<K: OrderedKey>(
     let mut at = root;
     let mut above = None;
     let mut compared = 0;
-    while let Link::At(i) = at {
+    while let Some(i) = at {
         let n = &nodes[i as usize];
         let here = Entry {
             key: n.key,

@@ -13,6 +13,6 @@ mod tree_books;
 mod trees;
 
 pub use clients::{TreeAnswers, tree_of_four};
-pub use nodes::{Link, Node};
+pub use nodes::Node;
 pub use shapes::Shape;
 pub use trees::Tree;

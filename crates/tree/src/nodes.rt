@@ -2,11 +2,7 @@ ghost use Rattle.std.specs.Prelude.{◌≡◌};
 ghost use Rattle.tree.specs.Blank.{blank};
 
 /// The way to a node: absent, or the slot that it stands in.
-#[derive(Clone, Copy)]
-pub enum Link {
-    Nil,
-    At(u16),
-}
+pub(crate) type Link = Option<u16>;
 
 /// A slot of node memory. In use it holds a pair, the links to the node's two sides and the height of the tree below
 /// it. A free slot has height 0, and its left link leads to the slot that was freed before it.
@@ -27,8 +23,8 @@ impl<K: Copy> Node<K> {
         Node {
             key,
             ticket: 0,
-            left: Link::Nil,
-            right: Link::Nil,
+            left: None,
+            right: None,
             height: 0,
         }
     }

@@ -1,11 +1,14 @@
-//! What a tree shows of its slots.
+//! What a tree shows of its slots and its latest call.
 
-ghost use Rattle.std.specs.Prelude.{◌≡◌, true};
-ghost use Rattle.tree.specs.Shapes.{shape_at, next_of, option_of};
-ghost use Rattle.tree.specs.States.{sound_in, model_of};
+ghost use Rattle.std.specs.Prelude.{◌≡◌, take};
+ghost use Rattle.std.specs.List.{slice_get};
+ghost use Rattle.tree.specs.Shapes.{first_of, next_of, shape_at};
+ghost use Rattle.tree.specs.Standing.{link_of};
+ghost use Rattle.tree.specs.States.{model_of};
 
-use crate::nodes::{Link, Node};
-use crate::states::State;
+use crate::nodes::Node;
+use crate::trees::Tree;
+use keys::OrderedKey;
 
 /// A slot that holds a pair: the slots of its two sides, the height of the tree below it, and its ticket.
 #[derive(Clone, Copy, PartialEq, Eq)]
@@ -16,47 +19,63 @@ pub struct Shape {
     pub ticket: u32,
 }
 
-/// The slot that a link leads to.
-pub(crate) fn slot_of(link: Link) -> Option<u16>
-    ensures { result ≡ option_of link }
-{
-    match link {
-        Link::Nil => None,
-        Link::At(i) => Some(i),
+impl<'a, K: OrderedKey> Tree<'a, K> {
+    /// How many comparisons the latest `add`, `take`, `find` or seek made; 0 when new.
+    pub fn comparisons(&self) -> u32
+        ensures { result ≡ (model_of self.now.nodes.now self.now.state).comparisons }
+    {
+        self.state.comparisons
     }
-}
 
-/// What a slot shows, if it holds a pair. A slot that is used and not free does: its height is not 0.
-pub(crate) fn shape_in<K: Copy>(nodes: &[Node<K>], state: State, slot: u16) -> Option<Shape>
-    requires { sound_in nodes.now state ≡ true }
-    ensures { result ≡ shape_at (model_of nodes.now state).tree slot }
-{
-    if slot >= state.fresh {
-        return None;
+    /// The root's slot.
+    pub fn root(&self) -> Option<u16>
+        ensures { result ≡ link_of (model_of self.now.nodes.now self.now.state).tree }
+    {
+        self.state.root
     }
-    let n = nodes[slot as usize];
-    if n.height == 0 {
-        return None;
-    }
-    Some(Shape {
-        left: slot_of(n.left),
-        right: slot_of(n.right),
-        height: n.height,
-        ticket: n.ticket,
-    })
-}
 
-/// The free slot that is used after a free slot.
-pub(crate) fn free_after_in<K: Copy>(nodes: &[Node<K>], state: State, slot: u16) -> Option<u16>
-    requires { sound_in nodes.now state ≡ true }
-    ensures { result ≡ next_of (model_of nodes.now state).free slot }
-{
-    if slot >= state.fresh {
-        return None;
+    /// The lowest slot never used.
+    pub fn fresh(&self) -> u16
+        ensures { result ≡ (model_of self.now.nodes.now self.now.state).fresh }
+    {
+        self.state.fresh
     }
-    let n = nodes[slot as usize];
-    if n.height != 0 {
-        return None;
+
+    /// The free slot that is used next.
+    pub fn first_free(&self) -> Option<u16>
+        ensures { result ≡ first_of (model_of self.now.nodes.now self.now.state).free }
+    {
+        self.state.free
     }
-    slot_of(n.left)
+
+    /// The free slot that is used after a free slot.
+    pub fn free_after(&self, slot: u16) -> Option<u16>
+        ensures { result ≡ next_of (model_of self.now.nodes.now self.now.state).free slot }
+    {
+        let n = self.used(slot)?;
+        if n.height == 0 { n.left } else { None }
+    }
+
+    /// What a slot shows, if it holds a pair. A slot that is used and not free does: its height is not 0.
+    pub fn shape(&self, slot: u16) -> Option<Shape>
+        ensures { result ≡ shape_at (model_of self.now.nodes.now self.now.state).tree slot }
+    {
+        match self.used(slot) {
+            Some(n) if n.height != 0 => Some(Shape {
+                left: n.left,
+                right: n.right,
+                height: n.height,
+                ticket: n.ticket,
+            }),
+            _ => None,
+        }
+    }
+
+    // The node in a slot that was ever used: it holds a pair, or is free.
+    fn used(&self, slot: u16) -> Option<Node<K>>
+        ensures { result ≡ slice_get (take self.now.state.fresh self.now.nodes.now) slot }
+    {
+        let used = &self.nodes[..self.state.fresh as usize];
+        used.get(slot as usize).copied()
+    }
 }

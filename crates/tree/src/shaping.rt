@@ -13,8 +13,8 @@ pub(crate) fn height_at<K: Copy>(nodes: &[Node<K>], at: Link) -> u8
     ensures { result ≡ height_at nodes.now at }
 {
     match at {
-        Link::Nil => 0,
-        Link::At(i) => nodes[i as usize].height,
+        None => 0,
+        Some(i) => nodes[i as usize].height,
     }
 }
 
@@ -40,7 +40,7 @@ pub(crate) fn put<K: Copy>(
         right,
         height,
     };
-    Link::At(i)
+    Some(i)
 }
 
 // Makes slot `i` the node over two sides, and turns its left side up.
@@ -56,8 +56,8 @@ pub(crate) fn turn_right<K: Copy>(
     ensures { Joins 253 (turn_right i key ticket) nodes.old i left right nodes.new result }
 {
     match left {
-        Link::Nil => put(nodes, i, key, ticket, left, right),
-        Link::At(j) => {
+        None => put(nodes, i, key, ticket, left, right),
+        Some(j) => {
             let n = nodes[j as usize];
             let inner = put(nodes, i, key, ticket, n.right, right);
             put(nodes, j, n.key, n.ticket, n.left, inner)
@@ -78,8 +78,8 @@ pub(crate) fn turn_left<K: Copy>(
     ensures { Joins 253 (turn_left i key ticket) nodes.old i left right nodes.new result }
 {
     match right {
-        Link::Nil => put(nodes, i, key, ticket, left, right),
-        Link::At(j) => {
+        None => put(nodes, i, key, ticket, left, right),
+        Some(j) => {
             let n = nodes[j as usize];
             let inner = put(nodes, i, key, ticket, left, n.left);
             put(nodes, j, n.key, n.ticket, inner, n.right)
@@ -93,8 +93,8 @@ pub(crate) fn ready_left<K: Copy>(nodes: &mut [Node<K>], side: Link) -> Link
     ensures { Turns 251 ready_left nodes.old side nodes.new result }
 {
     match side {
-        Link::Nil => side,
-        Link::At(j) => {
+        None => side,
+        Some(j) => {
             let n = nodes[j as usize];
             let outer = height_at(nodes, n.left);
             let inner = height_at(nodes, n.right);
@@ -113,8 +113,8 @@ pub(crate) fn ready_right<K: Copy>(nodes: &mut [Node<K>], side: Link) -> Link
     ensures { Turns 251 ready_right nodes.old side nodes.new result }
 {
     match side {
-        Link::Nil => side,
-        Link::At(j) => {
+        None => side,
+        Some(j) => {
             let n = nodes[j as usize];
             let outer = height_at(nodes, n.right);
             let inner = height_at(nodes, n.left);

@@ -1,134 +1,65 @@
-//! The tree as a book, and what it shows besides.
+//! The tree as a book.
 
-ghost use Rattle.std.specs.Prelude.{◌≡◌, true, map, length};
-ghost use Rattle.books.specs.Calls.{Add, Take, Find, Added, Taken, Found, Sought};
+ghost use Rattle.std.specs.Prelude.{◌≡◌, map, length};
+ghost use Rattle.books.specs.Calls.{Sought};
 ghost use Rattle.books.specs.Meaning.{known, usable};
 ghost use Rattle.avl.specs.Avl.{entries};
 ghost use Rattle.avl.specs.Model.{TreeModel, Sound, tree_step, new_tree};
-ghost use Rattle.tree.specs.Shapes.{root_slot, first_of, next_of, shape_at};
-ghost use Rattle.tree.specs.States.{sound_in, model_of, seek_call};
+ghost use Rattle.tree.specs.Descents.{FindsBelow, SeeksBelow};
+ghost use Rattle.tree.specs.States.{model_of, seek_call};
 
-use crate::nodes::{Link, Node};
-use crate::shapes::{Shape, free_after_in, shape_in, slot_of};
-use crate::states::{State, add_in, find_in, seek_in, slots_served, take_in};
-use crate::trees::{Core, Tree};
+use crate::changes::{insert, remove};
+use crate::descents::{Finding, Seeking, find_below, seek_below};
+use crate::nodes::Node;
+use crate::states::{State, free_slot};
+use crate::trees::Tree;
 use books::{Book, Entry};
 use keys::{OrderedKey, Refusal};
 
 impl<'a, K: OrderedKey> Tree<'a, K> {
     /// A new tree, with no pairs, in any memory.
     pub fn new(nodes: &'a mut [Node<K>]) -> Tree<'a, K>
-        ensures { model_of result.core.nodes.now result.core.state ≡ new_tree (usable (length nodes.old)) }
+        ensures { model_of result.nodes.now result.state ≡ new_tree (usable (length nodes.old)) }
     {
         let state = State {
-            root: Link::Nil,
-            free: Link::Nil,
+            root: None,
+            free: None,
             fresh: 0,
             held: 0,
             comparisons: 0,
         };
-        Tree {
-            core: Core { nodes, state },
-        }
+        Tree { nodes, state }
     }
 
-    /// How many comparisons the latest `add`, `take`, `find` or seek made; 0 when new.
-    pub fn comparisons(&self) -> u32
-        ensures { result ≡ (model_of self.now.core.nodes.now self.now.core.state).comparisons }
+    // Finds the ticket of a key.
+    fn found(&self, key: &K) -> Finding
+        ensures { FindsBelow K.OrderedKey.order self.now.nodes.now self.now.state.root key.now result }
     {
-        self.core.state.comparisons
+        find_below(self.nodes, self.state.root, key)
     }
 
-    /// The root's slot.
-    pub fn root(&self) -> Option<u16>
-        ensures { result ≡ root_slot (model_of self.now.core.nodes.now self.now.core.state).tree }
+    // Seeks from a key, or with `after` past it.
+    fn sought(&self, key: &K, after: bool) -> Seeking<K>
+        ensures { SeeksBelow after K.OrderedKey.order self.now.nodes.now self.now.state.root key.now result }
     {
-        slot_of(self.core.state.root)
+        seek_below(self.nodes, self.state.root, key, after)
     }
 
-    /// The lowest slot never used.
-    pub fn fresh(&self) -> u16
-        ensures { result ≡ (model_of self.now.core.nodes.now self.now.core.state).fresh }
+    fn seek(&mut self, key: &K, after: bool) -> Result<Option<Entry<K>>, Refusal>
+        ensures answer { Sought result ≡ (tree_step K.OrderedKey.order (model_of self.old.nodes.now self.old.state) (seek_call after key.now)).0 }
+        ensures left { model_of self.new.nodes.now self.new.state ≡ (tree_step K.OrderedKey.order (model_of self.old.nodes.now self.old.state) (seek_call after key.now)).1 }
     {
-        self.core.state.fresh
+        self.start()?;
+        let seeking = self.sought(key, after);
+        self.state.comparisons = seeking.comparisons;
+        Ok(seeking.entry)
     }
-
-    /// The free slot that is used next.
-    pub fn first_free(&self) -> Option<u16>
-        ensures { result ≡ first_of (model_of self.now.core.nodes.now self.now.core.state).free }
-    {
-        slot_of(self.core.state.free)
-    }
-
-    /// The free slot that is used after a free slot.
-    pub fn free_after(&self, slot: u16) -> Option<u16>
-        ensures { result ≡ next_of (model_of self.now.core.nodes.now self.now.core.state).free slot }
-    {
-        free_after_in(self.core.nodes, self.core.state, slot)
-    }
-
-    /// What a slot shows, if it holds a pair.
-    pub fn shape(&self, slot: u16) -> Option<Shape>
-        ensures { result ≡ shape_at (model_of self.now.core.nodes.now self.now.core.state).tree slot }
-    {
-        shape_in(self.core.nodes, self.core.state, slot)
-    }
-}
-
-fn add_core<K: OrderedKey>(core: &mut Core<K>, key: &K, ticket: u32) -> Result<(), Refusal>
-    requires { sound_in core.old.nodes.now core.old.state ≡ true }
-    ensures sound { sound_in core.new.nodes.now core.new.state ≡ true }
-    ensures answer { Added result ≡ (tree_step K.OrderedKey.order (model_of core.old.nodes.now core.old.state) (Add key.now ticket)).0 }
-    ensures left { model_of core.new.nodes.now core.new.state ≡ (tree_step K.OrderedKey.order (model_of core.old.nodes.now core.old.state) (Add key.now ticket)).1 }
-{
-    let state = core.state;
-    let done = add_in(core.nodes, state, key, ticket);
-    core.state = done.state;
-    done.answer
-}
-
-fn take_core<K: OrderedKey>(core: &mut Core<K>, key: &K) -> Result<u32, Refusal>
-    requires { sound_in core.old.nodes.now core.old.state ≡ true }
-    ensures sound { sound_in core.new.nodes.now core.new.state ≡ true }
-    ensures answer { Taken result ≡ (tree_step K.OrderedKey.order (model_of core.old.nodes.now core.old.state) (Take key.now)).0 }
-    ensures left { model_of core.new.nodes.now core.new.state ≡ (tree_step K.OrderedKey.order (model_of core.old.nodes.now core.old.state) (Take key.now)).1 }
-{
-    let state = core.state;
-    let done = take_in(core.nodes, state, key);
-    core.state = done.state;
-    done.answer
-}
-
-fn find_core<K: OrderedKey>(core: &mut Core<K>, key: &K) -> Result<Option<u32>, Refusal>
-    requires { sound_in core.old.nodes.now core.old.state ≡ true }
-    ensures sound { sound_in core.new.nodes.now core.new.state ≡ true }
-    ensures answer { Found result ≡ (tree_step K.OrderedKey.order (model_of core.old.nodes.now core.old.state) (Find key.now)).0 }
-    ensures left { model_of core.new.nodes.now core.new.state ≡ (tree_step K.OrderedKey.order (model_of core.old.nodes.now core.old.state) (Find key.now)).1 }
-{
-    let done = find_in(core, key);
-    core.state = done.state;
-    done.answer
-}
-
-fn seek_core<K: OrderedKey>(
-    core: &mut Core<K>,
-    key: &K,
-    after: bool,
-) -> Result<Option<Entry<K>>, Refusal>
-    requires { sound_in core.old.nodes.now core.old.state ≡ true }
-    ensures sound { sound_in core.new.nodes.now core.new.state ≡ true }
-    ensures answer { Sought result ≡ (tree_step K.OrderedKey.order (model_of core.old.nodes.now core.old.state) (seek_call after key.now)).0 }
-    ensures left { model_of core.new.nodes.now core.new.state ≡ (tree_step K.OrderedKey.order (model_of core.old.nodes.now core.old.state) (seek_call after key.now)).1 }
-{
-    let done = seek_in(core, key, after);
-    core.state = done.state;
-    done.answer
 }
 
 impl<'a, K: OrderedKey> Book<K> for Tree<'a, K> {
     ghost Model = { TreeModel K };
 
-    ghost model = { λ t. model_of t.core.nodes.now t.core.state };
+    ghost model = { λ t. model_of t.nodes.now t.state };
 
     ghost sound = { Sound };
 
@@ -142,34 +73,63 @@ impl<'a, K: OrderedKey> Book<K> for Tree<'a, K> {
 
     fn add(&mut self, key: &K, ticket: u32) -> Result<(), Refusal> {
         key.is_lawful();
-        add_core(&mut self.core, key, ticket)
+        self.start()?;
+        let spot = self.next_spot();
+        let grown = insert(self.nodes, self.state.root, key, ticket, spot.slot);
+        self.state.comparisons = grown.comparisons;
+        let root = grown.top?;
+        self.state = State {
+            root,
+            free: spot.free,
+            fresh: spot.fresh,
+            held: self.state.held + 1,
+            ..self.state
+        };
+        Ok(())
     }
 
     fn take(&mut self, key: &K) -> Result<u32, Refusal> {
         key.is_lawful();
-        take_core(&mut self.core, key)
+        self.start()?;
+        let nodes = &mut *self.nodes;
+        let shrunk = remove(nodes, self.state.root, key);
+        self.state.comparisons = shrunk.comparisons;
+        let Some(gone) = shrunk.gone else {
+            return Err(Refusal::KeyNotHeld);
+        };
+        free_slot(nodes, gone.slot, self.state.free);
+        self.state = State {
+            root: gone.top,
+            free: Some(gone.slot),
+            held: self.state.held - 1,
+            ..self.state
+        };
+        Ok(gone.ticket)
     }
 
     fn find(&mut self, key: &K) -> Result<Option<u32>, Refusal> {
         key.is_lawful();
-        find_core(&mut self.core, key)
+        self.start()?;
+        let finding = self.found(key);
+        self.state.comparisons = finding.comparisons;
+        Ok(finding.ticket)
     }
 
     fn seek_from(&mut self, key: &K) -> Result<Option<Entry<K>>, Refusal> {
         key.is_lawful();
-        seek_core(&mut self.core, key, false)
+        self.seek(key, false)
     }
 
     fn seek_after(&mut self, key: &K) -> Result<Option<Entry<K>>, Refusal> {
         key.is_lawful();
-        seek_core(&mut self.core, key, true)
+        self.seek(key, true)
     }
 
     fn count(&self) -> u32 {
-        u32::from(self.core.state.held)
+        u32::from(self.state.held)
     }
 
     fn capacity(&self) -> u32 {
-        u32::from(slots_served(self.core.nodes))
+        u32::from(self.served())
     }
 }

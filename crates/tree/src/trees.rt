@@ -4,17 +4,11 @@ ghost use Rattle.tree.specs.States.{sound_in};
 use crate::nodes::Node;
 use crate::states::State;
 
-/// The AVL tree's parts: node memory that its owner handed over, and the numbers beside it.
-#[derive(Drop)]
-pub(crate) struct Core<'a, K> {
-    pub(crate) nodes: &'a mut [Node<K>],
-    pub(crate) state: State,
-}
-
 /// A book in an AVL tree, in node memory that its owner hands over. Memory of 1 to 65,535 slots serves; any other
 /// memory serves as none.
 #[derive(Drop)]
 pub struct Tree<'a, K> {
-    pub(crate) core: Core<'a, K>,
-    ghost ok: { sound_in core.nodes.now core.state ≡ true },
+    pub(crate) nodes: &'a mut [Node<K>],
+    pub(crate) state: State,
+    ghost ok: { sound_in nodes.now state ≡ true },
 }

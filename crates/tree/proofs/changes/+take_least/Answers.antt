@@ -1,12 +1,11 @@
-use Rattle.std.proofs.Common.{◌<◌, length, refl, ap, arith, rules}
-use Rattle.tree.specs.declared.nodes.Link.TheVariants.{At}
+use Rattle.std.proofs.Common.{◌<◌, length, refl, ap, arith, rules, Some}
 use Rattle.tree.specs.Standing.{height_at}
 use Rattle.tree.proofs.Removing.{root, sided, falls_left, left_changeable, least_at_root, least_rejoins, least_at_left}
 use Rattle.tree.proofs.Standing.{leads_inside}
 use Rattle.tree.proofs.changes.+take_least.Goals as goal
 
 pub bounds-nodes-i : goal.bounds-nodes-i
-bounds-nodes-i g t c = leads_inside c.args.nodes.now (At c.args.i) c.args.i c.requires.0 c.requires.1.placed.stands refl
+bounds-nodes-i g t c = leads_inside c.args.nodes.now (Some c.args.i) c.args.i c.requires.0 c.requires.1.placed.stands refl
 
 pub offset_bounds-nodes-i : goal.offset_bounds-nodes-i
 offset_bounds-nodes-i g t c = let h : c.args.i < length c.args.nodes.now = bounds-nodes-i g t c in search rules
@@ -14,17 +13,17 @@ offset_bounds-nodes-i g t c = let h : c.args.i < length c.args.nodes.now = bound
 pub take_least-least-requires : goal.take_least-least-requires
 take_least-least-requires g t c κs within =
     let r = root c.args.nodes.now {i = c.args.i} refl c.index-nodes-i.is in
-    (omega (arith, falls_left r c.requires, ap (height_at c.args.nodes.now) c.in-At.is, c.decreases), (within, left_changeable c.in-At.is (sided r c.requires)))
+    (omega (arith, falls_left r c.requires, ap (height_at c.args.nodes.now) c.in-Some.is, c.decreases), (within, left_changeable c.in-Some.is (sided r c.requires)))
 
 pub settle_again-top-requires : goal.settle_again-top-requires
 settle_again-top-requires g t c =
     let r = root c.args.nodes.now {i = c.args.i} refl c.index-nodes-i.is in
-    least_rejoins r c.in-At.is c.take_least-least.auto.nodes c.take_least-least.ensures c.requires
+    least_rejoins r c.in-Some.is c.take_least-least.auto.nodes c.take_least-least.ensures c.requires
 
-pub returns-in-Nil : goal.returns-in-Nil
-returns-in-Nil g t c = least_at_root (root c.args.nodes.now {i = c.args.i} refl c.index-nodes-i.is) c.in-Nil.is
+pub returns-in-None : goal.returns-in-None
+returns-in-None g t c = least_at_root (root c.args.nodes.now {i = c.args.i} refl c.index-nodes-i.is) c.in-None.is
 
-pub returns-in-At : goal.returns-in-At
-returns-in-At g t c =
+pub returns-in-Some : goal.returns-in-Some
+returns-in-Some g t c =
     let r = root c.args.nodes.now {i = c.args.i} refl c.index-nodes-i.is in
-    least_at_left r c.in-At.is c.take_least-least.auto.nodes c.take_least-least.ensures c.settle_again-top.ensures
+    least_at_left r c.in-Some.is c.take_least-least.auto.nodes c.take_least-least.ensures c.settle_again-top.ensures

@@ -5,7 +5,8 @@ use Rattle.books.specs.Calls.{Call, Add, Take, Find, SeekFrom, SeekAfter, Answer
 use Rattle.books.specs.Meaning.{known}
 use Rattle.avl.specs.Avl.{Avl, tip, fork, balance, entries}
 use Rattle.avl.specs.Model.{TreeModel, tree_step, new_tree}
-use Rattle.tree.specs.Shapes.{root_slot, first_of, next_of, shape_at}
+use Rattle.tree.specs.Standing.{link_of}
+use Rattle.tree.specs.Shapes.{first_of, next_of, shape_at}
 use Rattle.tree.proofs.clients.tree_of_four.Goals as goal
 
 abbrev by_number : Count → Count → Ordering
@@ -55,7 +56,7 @@ returns c =
     record {
       added = cc (answered (Add (count 1) 10) (new_tree 4) at_first c.add-added.ensures.answer);
       again = cc (answered (Add (count 3) 40) (four three_held [] 3 2) after_three c.add-again.ensures.answer);
-      root = c.root-root.ensures ∙ ap (λ m. root_slot m.tree) after_again;
+      root = c.root-root.ensures ∙ ap (λ m. link_of m.tree) after_again;
       comparisons = c.comparisons-comparisons.ensures ∙ ap (λ m. m.comparisons) after_again;
       taken = cc (answered (Take (count 2)) (four three_held [] 3 2) after_again c.take-taken.ensures.answer);
       missing = cc (answered (Take (count 2)) (four one_gone (2 ∷ []) 3 1) after_taken c.take-missing.ensures.answer);

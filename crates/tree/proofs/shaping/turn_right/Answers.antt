@@ -4,19 +4,19 @@ use Rattle.tree.proofs.Rotations.{nothing_turns_right, turns_right_inner, turns_
 use Rattle.tree.proofs.shaping.turn_right.Goals as goal
 
 pub offset_bounds-nodes-j : goal.offset_bounds-nodes-j
-offset_bounds-nodes-j g c = let h : c.in-At.j < length c.args.nodes.now = leads_inside c.args.nodes.now c.args.left c.in-At.j c.requires.0 c.requires.1.1.left_stands c.in-At.is in search rules
+offset_bounds-nodes-j g c = let h : c.in-Some.j < length c.args.nodes.now = leads_inside c.args.nodes.now c.args.left c.in-Some.j c.requires.0 c.requires.1.1.left_stands c.in-Some.is in search rules
 
 pub bounds-nodes-j : goal.bounds-nodes-j
-bounds-nodes-j g c = leads_inside c.args.nodes.now c.args.left c.in-At.j c.requires.0 c.requires.1.1.left_stands c.in-At.is
+bounds-nodes-j g c = leads_inside c.args.nodes.now c.args.left c.in-Some.j c.requires.0 c.requires.1.1.left_stands c.in-Some.is
 
 pub put-inner-requires : goal.put-inner-requires
-put-inner-requires g c = turns_right_inner c.args.key c.args.ticket c.in-At.is c.index-nodes-j.is c.requires.1.1
+put-inner-requires g c = turns_right_inner c.args.key c.args.ticket c.in-Some.is c.index-nodes-j.is c.requires.1.1
 
-pub put-requires-in-At : goal.put-requires-in-At
-put-requires-in-At g c = turns_right_outer c.args.key c.args.ticket c.in-At.is c.index-nodes-j.is c.requires.1.1 c.put-inner.auto.nodes c.put-inner.ensures
+pub put-requires-in-Some : goal.put-requires-in-Some
+put-requires-in-Some g c = turns_right_outer c.args.key c.args.ticket c.in-Some.is c.index-nodes-j.is c.requires.1.1 c.put-inner.auto.nodes c.put-inner.ensures
 
-pub returns-in-Nil : goal.returns-in-Nil
-returns-in-Nil g c a b j = nothing_turns_right c.put.ensures j c.in-Nil.is
+pub returns-in-None : goal.returns-in-None
+returns-in-None g c a b j = nothing_turns_right c.put.ensures j c.in-None.is
 
-pub returns-in-At : goal.returns-in-At
-returns-in-At g c a b j = turns_right c.args.key c.args.ticket c.in-At.is c.index-nodes-j.is j c.put-inner.auto.nodes c.put-inner.ensures c.put-in-At.ensures
+pub returns-in-Some : goal.returns-in-Some
+returns-in-Some g c a b j = turns_right c.args.key c.args.ticket c.in-Some.is c.index-nodes-j.is j c.put-inner.auto.nodes c.put-inner.ensures c.put-in-Some.ensures

@@ -9,6 +9,5 @@ use Rattle.tree.proofs.tree_books.TreeBook.count.Goals as goal
 
 pub returns : goal.returns
 returns g c =
-    let core = c.args.self.now.core in
-    let tree = tree_at core.nodes.now core.state.root in
+    let tree = tree_at c.args.self.now.nodes.now c.args.self.now.state.root in
     c.from.ensures ∙ ((stands_from_test _ _ c.args.self.now.ok).held_is ∙ (size_entries tree ∙ sym (length-map (entries tree) known)))
