@@ -1,3 +1,5 @@
 pub mod Orders
 pub mod Numerals
 pub mod Names
+pub mod Sessions
+pub mod Words

@@ -1,7 +1,9 @@
 -- Numbers and bytes as words spell them.
-use Rattle.std.specs.Prelude.{ℕ, ◌+◌, ◌-◌, ◌*◌, ◌^◌, cond, ◌&&◌, List, [], ◌∷◌, ℤ, pos, neg_ℤ, Some, None, Option, ◌==◌, nat_le, nat_lt}
+use Rattle.std.specs.Prelude.{◌≡◌, ◌≢◌, ℕ, ◌+◌, ◌-◌, ◌*◌, ◌^◌, cond, ◌&&◌, List, [], ◌∷◌, ℤ, pos, neg_ℤ, Some, None, Option, Ok, Err, Result, ◌==◌, nat_le, nat_lt, slice_index}
 use Rattle.std.specs.Char.{digit_value}
-use Rattle.std.specs.Str.{all_ascii_digits}
+use Rattle.std.specs.Str.{all_ascii_digits, IsUtf8}
+use Rattle.passages.specs.declared.troubles.Trouble.{Trouble}
+use Rattle.passages.specs.declared.troubles.Trouble.TheVariants.{NotUnderstood}
 
 -- the number that decimal digits write, after those of n
 abbrev pub number_after : ℕ → List ℕ → ℕ
@@ -47,3 +49,26 @@ abbrev pub hex_byte_read : Option ℕ → Option ℕ → Option ℕ
 hex_byte_read None low = None
 hex_byte_read (Some h) None = None
 hex_byte_read (Some h) (Some l) = Some (16 * h + l)
+
+-- a byte before others, where each is read
+abbrev pub hex_more : Option ℕ → Option (List ℕ) → Option (List ℕ)
+hex_more None bytes = None
+hex_more (Some b) None = None
+hex_more (Some b) (Some bs) = Some (b ∷ bs)
+
+-- the bytes that a word writes, two hex digits each
+abbrev pub hex_read : List ℕ → Option (List ℕ)
+hex_read [] = Some []
+hex_read (c ∷ []) = None
+hex_read (high ∷ low ∷ cs) = hex_more (hex_byte_read (hex_digit_read high) (hex_digit_read low)) (hex_read cs)
+
+-- what is read, or else that it is not understood
+abbrev pub understood : {A : Type 0} → Option A → Result A Trouble
+understood None = Err NotUnderstood
+understood (Some a) = Ok a
+
+-- a word is read as the library reads its text, but for a plus sign, which is not understood
+abbrev pub ReadsUnlessPlus : {N E : Type 0} → (List ℕ → Result N E → Type 0) → List ℕ → Result N Trouble → Type 0
+ReadsUnlessPlus reads word (Ok n) = (slice_index word 0 ≢ 43) × reads word (Ok n)
+ReadsUnlessPlus {E} reads word (Err trouble) =
+    (trouble ≡ NotUnderstood) × (IsUtf8 word → slice_index word 0 ≢ 43 → (e : E) × reads word (Err e))

@@ -1,16 +1,17 @@
-//! The cipher that is set, and what its commands answer.
+//! The cipher that is set, and what it answers.
 
 use crate::ordering::in_order;
-use crate::replies;
+use crate::replies::KeyText;
 use crate::troubles::Trouble;
-use crate::values::{Passage, Spelled};
-use crate::words::{decimal_byte, hex, hex_into};
+use crate::values::{Passage, Spelled, Word};
+use crate::words::{decimal_byte, hex_bytes};
+use hex::FromHex;
 use keys::{Count, KeyKind, Level, Name, Refusal};
 use masks::{HashSource, MaskSource, TreeSource};
 use sealing::SealedKey;
 use std::alloc::Global;
 
-/// The kinds of values, by their words.
+/// The kinds of values.
 #[derive(Clone, Copy)]
 pub enum Kind {
     Count,
@@ -19,17 +20,25 @@ pub enum Kind {
     Passage,
 }
 
-impl Kind {
-    pub fn from_word(word: &[u8]) -> Option<Kind> {
+impl TryFrom<&[u8]> for Kind {
+    ghost use Rattle.passages.specs.Words.{ReadsWordOf, kind_word};
+
+    type Error = Trouble;
+
+    ghost try_from_gives = { λ word r. ReadsWordOf kind_word word.now r };
+
+    fn try_from(word: &[u8]) -> Result<Kind, Trouble> {
         match word {
-            b"count" => Some(Kind::Count),
-            b"level" => Some(Kind::Level),
-            b"name" => Some(Kind::Name),
-            b"passage" => Some(Kind::Passage),
-            _ => None,
+            b"count" => Ok(Kind::Count),
+            b"level" => Ok(Kind::Level),
+            b"name" => Ok(Kind::Name),
+            b"passage" => Ok(Kind::Passage),
+            _ => Err(Trouble::NotUnderstood),
         }
     }
+}
 
+impl Kind {
     pub fn width(self) -> u8 {
         match self {
             Kind::Count => Count::width(),
@@ -40,24 +49,54 @@ impl Kind {
     }
 }
 
-/// The mask sources, by their words.
+/// The mask sources.
 #[derive(Clone, Copy)]
 pub enum Source {
     Hash,
     Tree,
 }
 
-impl Source {
-    pub fn from_word(word: &[u8]) -> Option<Source> {
+impl TryFrom<&[u8]> for Source {
+    ghost use Rattle.passages.specs.Words.{ReadsWordOf, source_word};
+
+    type Error = Trouble;
+
+    ghost try_from_gives = { λ word r. ReadsWordOf source_word word.now r };
+
+    fn try_from(word: &[u8]) -> Result<Source, Trouble> {
         match word {
-            b"hash" => Some(Source::Hash),
-            b"tree" => Some(Source::Tree),
-            _ => None,
+            b"hash" => Ok(Source::Hash),
+            b"tree" => Ok(Source::Tree),
+            _ => Err(Trouble::NotUnderstood),
         }
     }
 }
 
-/// What `seal`, `open` and `order` use.
+/// The words of a sealed key: its width, and its packed bytes in hex digits.
+#[derive(Clone, Copy)]
+pub struct KeyWords<'a> {
+    pub width: &'a [u8],
+    pub packed: &'a [u8],
+}
+
+impl KeyWords<'_> {
+    /// The sealed key that the words spell, if it is taken in.
+    pub fn read(self, heap: Global) -> Result<Result<SealedKey, Refusal>, Trouble> {
+        let width = decimal_byte(self.width)?;
+        let packed = hex_bytes(heap, self.packed)?;
+        Ok(sealing::take_in(width, packed.as_slice()))
+    }
+}
+
+/// What a cipher is asked for, in words.
+#[derive(Clone, Copy)]
+pub enum Task<'a> {
+    Seal(&'a [u8]),
+    Open(KeyWords<'a>),
+    Order(&'a [&'a [u8]]),
+}
+
+/// What does the tasks.
 #[derive(Clone, Copy)]
 pub struct Cipher {
     pub kind: Kind,
@@ -67,137 +106,96 @@ pub struct Cipher {
 
 impl Cipher {
     /// The cipher of a kind, a source and a secret of 32 hex digits.
-    pub fn from_words(kind: &[u8], source: &[u8], secret: &[u8]) -> Option<Cipher> {
-        let kind = Kind::from_word(kind)?;
-        let source = Source::from_word(source)?;
-        let mut bytes = [0; 16];
-        hex_into(secret, &mut bytes)?;
-        Some(Cipher {
-            kind,
-            source,
-            secret: bytes,
+    pub fn from_words(kind: &[u8], source: &[u8], secret: &[u8]) -> Result<Cipher, Trouble> {
+        Ok(Cipher {
+            kind: kind.try_into()?,
+            source: source.try_into()?,
+            secret: <[u8; 16]>::from_hex(secret)?,
         })
     }
 
-    /// Writes the result of a `seal`, `open` or `order` command.
-    pub fn perform(&self, words: &[&[u8]], out: &mut Vec<u8>) -> Result<(), Trouble> {
+    /// The result of a task.
+    pub fn perform(&self, heap: Global, task: Task) -> Result<String, Trouble> {
         match self.source {
-            Source::Hash => perform_with(&mut HashSource::new(self.secret), self.kind, words, out),
-            Source::Tree => perform_with(&mut TreeSource::new(self.secret), self.kind, words, out),
+            Source::Hash => self.perform_with(heap, HashSource::new(self.secret), task),
+            Source::Tree => self.perform_with(heap, TreeSource::new(self.secret), task),
+        }
+    }
+
+    fn perform_with<S: MaskSource + Drop>(
+        &self,
+        heap: Global,
+        source: S,
+        task: Task,
+    ) -> Result<String, Trouble> {
+        let mut sealer = Sealer { heap, source };
+        match self.kind {
+            Kind::Count => sealer.perform::<Count>(task),
+            Kind::Level => sealer.perform::<Level>(task),
+            Kind::Name => sealer.perform::<Name>(task),
+            Kind::Passage => sealer.perform::<Passage>(task),
         }
     }
 }
 
-fn perform_with<S: MaskSource>(
-    source: &mut S,
-    kind: Kind,
-    words: &[&[u8]],
-    out: &mut Vec<u8>,
-) -> Result<(), Trouble> {
-    match kind {
-        Kind::Count => perform_at::<S, Count>(source, words, out),
-        Kind::Level => perform_at::<S, Level>(source, words, out),
-        Kind::Name => perform_at::<S, Name>(source, words, out),
-        Kind::Passage => perform_at::<S, Passage>(source, words, out),
-    }
-}
-
-fn perform_at<S: MaskSource, K: Spelled>(
-    source: &mut S,
-    words: &[&[u8]],
-    out: &mut Vec<u8>,
-) -> Result<(), Trouble> {
-    match words {
-        [b"seal", value] => seal_word::<S, K>(source, value, out),
-        [b"open", width, packed] => open_words::<S, K>(source, width, packed, out),
-        [b"order", values @ ..] => order_words::<S, K>(source, values, out),
-        _ => Err(Trouble::NotUnderstood),
-    }
-}
-
-fn seal_word<S: MaskSource, K: Spelled>(
-    source: &mut S,
-    word: &[u8],
-    out: &mut Vec<u8>,
-) -> Result<(), Trouble> {
-    let value = K::from_word(*out.allocator(), word)??;
-    let mut scratch = [0; 32];
-    let key = sealing::seal(source, &value, &mut scratch)?;
-    replies::put_key(out, &key)?;
-    Ok(())
-}
-
-fn open_words<S: MaskSource, K: Spelled>(
-    source: &mut S,
-    width: &[u8],
-    packed: &[u8],
-    out: &mut Vec<u8>,
-) -> Result<(), Trouble> {
-    let key = key_of_words(*out.allocator(), width, packed)??;
-    open_key::<S, K>(source, &key, out)
-}
-
-fn open_key<S: MaskSource, K: Spelled>(
-    source: &mut S,
-    key: &SealedKey,
-    out: &mut Vec<u8>,
-) -> Result<(), Trouble> {
-    let mut scratch = [0; 32];
-    let value: K = sealing::open(source, key, &mut scratch)?;
-    value.spell(out)?;
-    Ok(())
-}
-
-/// The sealed key that a width and hex digits spell, if it is taken in.
-pub fn key_of_words(
+// Seals and opens with one mask source.
+#[derive(Drop)]
+struct Sealer<S> {
     heap: Global,
-    width: &[u8],
-    packed: &[u8],
-) -> Result<Result<SealedKey, Refusal>, Trouble> {
-    let width = decimal_byte(width).ok_or(Trouble::NotUnderstood)?;
-    let packed = hex(heap, packed)?;
-    Ok(sealing::take_in(width, packed.as_slice()))
+    source: S,
 }
 
-fn order_words<S: MaskSource, K: Spelled>(
-    source: &mut S,
-    words: &[&[u8]],
-    out: &mut Vec<u8>,
-) -> Result<(), Trouble> {
-    let values = values_of::<K>(*out.allocator(), words)?;
-    let keys = seal_all(source, *out.allocator(), values.as_slice())?;
-    let ordered = in_order(*out.allocator(), keys.as_slice())?;
-    for (i, key) in ordered.iter().enumerate() {
-        if i > 0 {
-            replies::put_text(out, " ")?;
+impl<S: MaskSource> Sealer<S> {
+    fn perform<K: Spelled>(&mut self, task: Task) -> Result<String, Trouble> {
+        match task {
+            Task::Seal(word) => {
+                let value = K::from_word(self.heap, word)??;
+                let key = self.seal(&value)?;
+                Ok(format!(in self.heap; "{}", KeyText(key))?)
+            }
+            Task::Open(words) => {
+                let key = words.read(self.heap)??;
+                self.open_word::<K>(&key)
+            }
+            Task::Order(words) => self.order::<K>(words),
         }
-        open_key::<S, K>(source, key, out)?;
     }
-    Ok(())
+
+    fn seal<K: KeyKind>(&mut self, value: &K) -> Result<SealedKey, Refusal> {
+        sealing::seal(&mut self.source, value, &mut [0; 32])
+    }
+
+    // The word that spells the value of a sealed key.
+    fn open_word<K: Spelled>(&mut self, key: &SealedKey) -> Result<String, Trouble> {
+        let value: K = sealing::open(&mut self.source, key, &mut [0; 32])?;
+        Ok(format!(in self.heap; "{}", Word(value))?)
+    }
+
+    // Seals the values, sorts them by their sealed keys alone, and opens them again.
+    fn order<K: Spelled>(&mut self, words: &[&[u8]]) -> Result<String, Trouble> {
+        let heap = self.heap;
+        let values: Vec<K> = values_of(heap, words)?;
+        let keys: Vec<SealedKey> = values
+            .iter()
+            .map(|value| self.seal(value).map_err(Trouble::from))
+            .try_collect(heap)?;
+        let ordered = in_order(heap, keys.as_slice())?;
+        let opened: Vec<String> = ordered
+            .iter()
+            .map(|key| self.open_word::<K>(key))
+            .try_collect(heap)?;
+        Ok(opened.join(heap, " ")?)
+    }
 }
 
 // The values that words spell; where one is refused, all words are of their form.
 fn values_of<K: Spelled>(heap: Global, words: &[&[u8]]) -> Result<Vec<K>, Trouble> {
-    let mut readings = Vec::new(heap);
-    for word in words {
-        readings.push(K::from_word(heap, word)?)?;
-    }
-    let mut values = Vec::new(heap);
-    for reading in readings {
-        values.push(reading?)?;
-    }
-    Ok(values)
-}
-
-fn seal_all<S: MaskSource, K: KeyKind>(
-    source: &mut S,
-    heap: Global,
-    values: &[K],
-) -> Result<Vec<SealedKey>, Trouble> {
-    let mut keys = Vec::new(heap);
-    for value in values {
-        let mut scratch = [0; 32];
-        keys.push(sealing::seal(source, value, &mut scratch)?)?;
-    }
-    Ok(keys)
+    let readings: Vec<Result<K, Refusal>> = words
+        .iter()
+        .map(|word| K::from_word(heap, word))
+        .try_collect(heap)?;
+    readings
+        .into_iter()
+        .map(|reading| reading.map_err(Trouble::from))
+        .try_collect(heap)
 }

@@ -1,13 +1,15 @@
 //! The commands: what each does, and the line that tells its result.
 
-use crate::ciphers::{Cipher, key_of_words};
+use crate::ciphers::{Cipher, KeyWords, Task};
 use crate::openings::{Opening, Request};
-use crate::replies::{put_number, put_refusal, put_text, put_words};
-use crate::shelves::Shelf;
+use crate::replies::{joined, told};
+use crate::shelves::{Question, Shelf};
 use crate::troubles::Trouble;
 use crate::words::words_of;
 use std::alloc::{AllocError, Global};
 use std::cmp::Ordering;
+use std::io;
+use std::io::Write;
 
 /// What commands set and use, besides the book.
 #[derive(Clone, Copy)]
@@ -15,10 +17,14 @@ pub struct Desk {
     cipher: Option<Cipher>,
 }
 
-/// What a line comes to: text that is to be printed, or a new book that is to be opened.
+/// What a line comes to.
 #[derive(Drop)]
 pub enum Outcome {
+    /// the line is passed over
+    Nothing,
+    /// a line is to be printed
     Told(Vec<u8>),
+    /// a new book is to be opened
     Opens(Opening),
 }
 
@@ -27,130 +33,96 @@ impl Desk {
         Desk { cipher: None }
     }
 
-    /// Does what a line asks, of the cipher or of the book on the shelf. A line that is passed over tells nothing.
+    /// Does what a line asks, of the cipher or of the book on the shelf. A line with no words, or whose first word
+    /// begins with `#`, is passed over.
     pub fn answer<S: Shelf>(
         &mut self,
         shelf: &mut S,
         heap: Global,
         number: u64,
         line: &[u8],
-    ) -> Result<Outcome, AllocError> {
+    ) -> io::Result<Outcome> {
         let words = words_of(heap, line)?;
         let words = words.as_slice();
-        match words {
-            [] => return Ok(Outcome::Told(Vec::new(heap))),
-            [first, ..] if first.starts_with(b"#") => return Ok(Outcome::Told(Vec::new(heap))),
-            [b"book", kind, store, slots, b"open"] => {
-                if let Some(request) = Request::from_words(kind, store, slots) {
-                    return Ok(Outcome::Opens(Opening::new(heap, words, request)?));
-                }
-            }
-            _ => {}
+        if words.first().is_none_or(|first| first.starts_with(b"#")) {
+            return Ok(Outcome::Nothing);
         }
-        let mut result = Vec::new(heap);
-        match self.perform(shelf, words, &mut result) {
-            Ok(()) => Ok(Outcome::Told(told(heap, words, result.as_slice())?)),
-            Err(trouble) => Ok(Outcome::Told(trouble_told(heap, number, words, trouble)?)),
+        if let [b"book", kind, store, slots, b"open"] = words
+            && let Ok(request) = Request::from_words(kind, store, slots)
+        {
+            return Ok(Outcome::Opens(Opening::new(heap, words, request)?));
         }
+        let reply = match self.perform(shelf, heap, words) {
+            Ok(result) => told(joined(heap, head(words))?, result)?,
+            Err(Trouble::NotUnderstood) => not_understood(heap, number, words)?,
+            Err(Trouble::OutOfMemory) => return Err(io::Error::from(AllocError)),
+            Err(trouble) => told(joined(heap, head(words))?, trouble)?,
+        };
+        Ok(Outcome::Told(reply))
     }
 
-    // Writes the result of a command.
+    // The result of a command.
     fn perform<S: Shelf>(
         &mut self,
         shelf: &mut S,
+        heap: Global,
         words: &[&[u8]],
-        out: &mut Vec<u8>,
-    ) -> Result<(), Trouble> {
+    ) -> Result<String, Trouble> {
         match words {
-            [b"cipher", kind, source, secret] => self.set_cipher(kind, source, secret, out),
+            [b"cipher", kind, source, secret] => {
+                self.set_cipher(heap, Cipher::from_words(kind, source, secret)?)
+            }
             [b"compare", width_a, packed_a, width_b, packed_b] => compare(
-                width_a, packed_a, width_b, packed_b, out,
+                heap,
+                KeyWords {
+                    width: width_a,
+                    packed: packed_a,
+                },
+                KeyWords {
+                    width: width_b,
+                    packed: packed_b,
+                },
             ),
-            [b"seal", _] | [b"open", _, _] | [b"order", _, ..] => self.ask_cipher(words, out),
-            [b"add", _, _]
-            | [b"take", _]
-            | [b"find", _]
-            | [b"from", _]
-            | [b"after", _]
-            | [b"count"]
-            | [b"tree"] => shelf.perform(words, out),
+            [b"seal", value] => self.ask_cipher(heap, Task::Seal(value)),
+            [b"open", width, packed] => {
+                self.ask_cipher(heap, Task::Open(KeyWords { width, packed }))
+            }
+            [b"order", _, ..] => self.ask_cipher(heap, Task::Order(&words[1..])),
+            [b"add", value, ticket] => shelf.answer(heap, Question::Add { value, ticket }),
+            [b"take", value] => shelf.answer(heap, Question::Take(value)),
+            [b"find", value] => shelf.answer(heap, Question::Find(value)),
+            [b"from", value] => shelf.answer(heap, Question::From(value)),
+            [b"after", value] => shelf.answer(heap, Question::After(value)),
+            [b"count"] => shelf.answer(heap, Question::Count),
+            [b"tree"] => shelf.layout(heap),
             _ => Err(Trouble::NotUnderstood),
         }
     }
 
-    fn set_cipher(
-        &mut self,
-        kind: &[u8],
-        source: &[u8],
-        secret: &[u8],
-        out: &mut Vec<u8>,
-    ) -> Result<(), Trouble> {
-        let cipher = Cipher::from_words(kind, source, secret).ok_or(Trouble::NotUnderstood)?;
-        let width = cipher.kind.width();
+    fn set_cipher(&mut self, heap: Global, cipher: Cipher) -> Result<String, Trouble> {
         self.cipher = Some(cipher);
-        put_text(out, "width ")?;
-        put_number(out, width)?;
-        put_text(out, ", packed ")?;
-        put_number(out, sealing::packed_length(width))?;
-        Ok(())
+        let width = cipher.kind.width();
+        Ok(format!(in heap; "width {width}, packed {}", sealing::packed_length(width))?)
     }
 
-    fn ask_cipher(&self, words: &[&[u8]], out: &mut Vec<u8>) -> Result<(), Trouble> {
-        match self.cipher {
-            Some(cipher) => cipher.perform(words, out),
-            None => Err(Trouble::NoCipher),
-        }
+    fn ask_cipher(&self, heap: Global, task: Task) -> Result<String, Trouble> {
+        self.cipher.ok_or(Trouble::NoCipher)?.perform(heap, task)
     }
 }
 
-fn compare(
-    width_a: &[u8],
-    packed_a: &[u8],
-    width_b: &[u8],
-    packed_b: &[u8],
-    out: &mut Vec<u8>,
-) -> Result<(), Trouble> {
-    let a = key_of_words(*out.allocator(), width_a, packed_a)?;
-    let b = key_of_words(*out.allocator(), width_b, packed_b)?;
+fn compare(heap: Global, a: KeyWords, b: KeyWords) -> Result<String, Trouble> {
+    let a = a.read(heap)?;
+    let b = b.read(heap)?;
     let comparison = sealing::compare(&a?, &b?);
     let order = match comparison.order {
-        Ordering::Less => "less at ",
-        Ordering::Equal => "equal at ",
-        Ordering::Greater => "greater at ",
+        Ordering::Less => "less",
+        Ordering::Equal => "equal",
+        Ordering::Greater => "greater",
     };
-    put_text(out, order)?;
-    put_number(out, comparison.place)?;
-    Ok(())
+    Ok(format!(in heap; "{order} at {}", comparison.place)?)
 }
 
-// The line that tells why a command has no result.
-fn trouble_told(
-    heap: Global,
-    number: u64,
-    words: &[&[u8]],
-    trouble: Trouble,
-) -> Result<Vec<u8>, AllocError> {
-    let mut result = Vec::new(heap);
-    match trouble {
-        Trouble::NotUnderstood => return not_understood(heap, number, words),
-        Trouble::NoCipher => put_text(&mut result, "no cipher is set")?,
-        Trouble::NoBook => put_text(&mut result, "no book is open")?,
-        Trouble::Refused(refusal) => put_refusal(&mut result, refusal)?,
-        Trouble::OutOfMemory => return Err(AllocError),
-    }
-    told(heap, words, result.as_slice())
-}
-
-// The line of a result: the head, which never shows a secret, and the result.
-fn told(heap: Global, words: &[&[u8]], text: &[u8]) -> Result<Vec<u8>, AllocError> {
-    let mut line = Vec::new(heap);
-    put_words(&mut line, head(words))?;
-    put_text(&mut line, ": ")?;
-    line.extend_from_slice(text)?;
-    put_text(&mut line, "\n")?;
-    Ok(line)
-}
-
+// The words that stand before a result: the secret of a cipher is never shown.
 fn head<'a, 'b>(words: &'a [&'b [u8]]) -> &'a [&'b [u8]] {
     match words {
         [b"cipher", _, _, ..] => &words[0..3],
@@ -158,14 +130,10 @@ fn head<'a, 'b>(words: &'a [&'b [u8]]) -> &'a [&'b [u8]] {
     }
 }
 
-fn not_understood(heap: Global, number: u64, words: &[&[u8]]) -> Result<Vec<u8>, AllocError> {
+fn not_understood(heap: Global, number: u64, words: &[&[u8]]) -> io::Result<Vec<u8>> {
     let mut line = Vec::new(heap);
-    put_text(&mut line, "line ")?;
-    put_number(&mut line, number)?;
-    put_text(&mut line, ": not understood: ")?;
-    if let Some(first) = words.first() {
-        line.extend_from_slice(first)?;
-    }
-    put_text(&mut line, "\n")?;
+    write!(line, "line {number}: {}: ", Trouble::NotUnderstood)?;
+    line.extend_from_slice(words.first().copied().unwrap_or(b""))?;
+    line.push(b'\n')?;
     Ok(line)
 }

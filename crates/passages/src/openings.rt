@@ -1,7 +1,8 @@
 //! Books that are to be opened.
 
 use crate::ciphers::Kind;
-use crate::replies::put_words;
+use crate::replies::joined;
+use crate::troubles::Trouble;
 use crate::words::decimal;
 use std::alloc::{AllocError, Global};
 
@@ -12,12 +13,18 @@ pub enum Store {
     Row,
 }
 
-impl Store {
-    pub fn from_word(word: &[u8]) -> Option<Store> {
+impl TryFrom<&[u8]> for Store {
+    ghost use Rattle.passages.specs.Words.{ReadsWordOf, store_word};
+
+    type Error = Trouble;
+
+    ghost try_from_gives = { λ word r. ReadsWordOf store_word word.now r };
+
+    fn try_from(word: &[u8]) -> Result<Store, Trouble> {
         match word {
-            b"tree" => Some(Store::Tree),
-            b"row" => Some(Store::Row),
-            _ => None,
+            b"tree" => Ok(Store::Tree),
+            b"row" => Ok(Store::Row),
+            _ => Err(Trouble::NotUnderstood),
         }
     }
 }
@@ -34,14 +41,16 @@ pub struct Request {
 }
 
 impl Request {
-    pub fn from_words(kind: &[u8], store: &[u8], slots: &[u8]) -> Option<Request> {
-        let kind = Kind::from_word(kind)?;
-        let store = Store::from_word(store)?;
-        let slots = decimal(slots)?;
-        if slots > MOST_SLOTS {
-            return None;
+    pub fn from_words(kind: &[u8], store: &[u8], slots: &[u8]) -> Result<Request, Trouble> {
+        let request = Request {
+            kind: kind.try_into()?,
+            store: store.try_into()?,
+            slots: decimal(slots)?,
+        };
+        if request.slots > MOST_SLOTS {
+            return Err(Trouble::NotUnderstood);
         }
-        Some(Request { kind, store, slots })
+        Ok(request)
     }
 }
 
@@ -54,11 +63,9 @@ pub struct Opening {
 
 impl Opening {
     pub fn new(heap: Global, words: &[&[u8]], request: Request) -> Result<Opening, AllocError> {
-        let mut line = Vec::new(heap);
-        put_words(&mut line, words)?;
         Ok(Opening {
             request,
-            words: line,
+            words: joined(heap, words)?,
         })
     }
 }

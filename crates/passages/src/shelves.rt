@@ -1,17 +1,30 @@
-//! The book that is open, if one is, and what its commands answer.
+//! The book that is open, if one is, and what it answers.
 
-use crate::layouts::put_tree;
-use crate::replies::{put_number, put_text};
+use crate::layouts::Layout;
 use crate::troubles::Trouble;
-use crate::values::Spelled;
+use crate::values::{Spelled, Word};
 use crate::words::decimal;
 use books::{Book, Entry, Row};
+use std::alloc::{AllocError, Global};
 use tree::Tree;
 
-/// What answers the commands of a book.
+/// What a book is asked for, in words.
+#[derive(Clone, Copy)]
+pub enum Question<'a> {
+    Add { value: &'a [u8], ticket: &'a [u8] },
+    Take(&'a [u8]),
+    Find(&'a [u8]),
+    From(&'a [u8]),
+    After(&'a [u8]),
+    Count,
+}
+
+/// What answers the questions to a book.
 pub trait Shelf {
-    /// Writes the result of a command of books.
-    fn perform(&mut self, words: &[&[u8]], out: &mut Vec<u8>) -> Result<(), Trouble>;
+    fn answer(&mut self, heap: Global, question: Question) -> Result<String, Trouble>;
+
+    /// How the book lies in its memory.
+    fn layout(&self, heap: Global) -> Result<String, Trouble>;
 }
 
 /// No book is open.
@@ -19,117 +32,75 @@ pub trait Shelf {
 pub struct NoBook;
 
 impl Shelf for NoBook {
-    fn perform(&mut self, _words: &[&[u8]], _out: &mut Vec<u8>) -> Result<(), Trouble> {
+    fn answer(&mut self, _heap: Global, _question: Question) -> Result<String, Trouble> {
+        Err(Trouble::NoBook)
+    }
+
+    fn layout(&self, _heap: Global) -> Result<String, Trouble> {
         Err(Trouble::NoBook)
     }
 }
 
 impl<'a, K: Spelled> Shelf for Tree<'a, K> {
-    fn perform(&mut self, words: &[&[u8]], out: &mut Vec<u8>) -> Result<(), Trouble> {
-        match words {
-            [b"tree"] => {
-                put_tree(self, out)?;
-                Ok(())
-            }
-            _ => ask::<K, Tree<'a, K>>(self, words, out),
-        }
+    fn answer(&mut self, heap: Global, question: Question) -> Result<String, Trouble> {
+        ask::<K, Tree<'a, K>>(self, heap, question)
+    }
+
+    fn layout(&self, heap: Global) -> Result<String, Trouble> {
+        Ok(format!(in heap; "{}", Layout(self))?)
     }
 }
 
 impl<'a, K: Spelled> Shelf for Row<'a, K> {
-    fn perform(&mut self, words: &[&[u8]], out: &mut Vec<u8>) -> Result<(), Trouble> {
-        match words {
-            [b"tree"] => {
-                put_text(out, "this book is a row")?;
-                Ok(())
-            }
-            _ => ask::<K, Row<'a, K>>(self, words, out),
-        }
+    fn answer(&mut self, heap: Global, question: Question) -> Result<String, Trouble> {
+        ask::<K, Row<'a, K>>(self, heap, question)
+    }
+
+    fn layout(&self, heap: Global) -> Result<String, Trouble> {
+        Ok(String::from_str(heap, "this book is a row")?)
     }
 }
 
 fn ask<K: Spelled, B: Book<K>>(
     book: &mut B,
-    words: &[&[u8]],
-    out: &mut Vec<u8>,
-) -> Result<(), Trouble> {
-    match words {
-        [b"add", value, ticket] => add::<K, B>(book, value, ticket, out),
-        [b"take", value] => take::<K, B>(book, value, out),
-        [b"find", value] => find::<K, B>(book, value, out),
-        [b"from", value] => {
-            let key = K::from_word(*out.allocator(), value)??;
-            put_entry(out, book.seek_from(&key)?)
+    heap: Global,
+    question: Question,
+) -> Result<String, Trouble> {
+    match question {
+        Question::Add { value, ticket } => {
+            let key = K::from_word(heap, value)?;
+            let ticket = decimal(ticket)?;
+            book.add(&key?, ticket)?;
+            Ok(String::from_str(heap, "added")?)
         }
-        [b"after", value] => {
-            let key = K::from_word(*out.allocator(), value)??;
-            put_entry(out, book.seek_after(&key)?)
+        Question::Take(value) => {
+            let key = K::from_word(heap, value)??;
+            let ticket = book.take(&key)?;
+            Ok(format!(in heap; "ticket {ticket}")?)
         }
-        [b"count"] => put_count::<K, B>(book, out),
-        _ => Err(Trouble::NotUnderstood),
+        Question::Find(value) => {
+            let key = K::from_word(heap, value)??;
+            match book.find(&key)? {
+                Some(ticket) => Ok(format!(in heap; "ticket {ticket}")?),
+                None => Ok(String::from_str(heap, "none")?),
+            }
+        }
+        Question::From(value) => {
+            let key = K::from_word(heap, value)??;
+            Ok(found(heap, book.seek_from(&key)?)?)
+        }
+        Question::After(value) => {
+            let key = K::from_word(heap, value)??;
+            Ok(found(heap, book.seek_after(&key)?)?)
+        }
+        Question::Count => Ok(format!(in heap; "{} of {}", book.count(), book.capacity())?),
     }
 }
 
-fn add<K: Spelled, B: Book<K>>(
-    book: &mut B,
-    value: &[u8],
-    ticket: &[u8],
-    out: &mut Vec<u8>,
-) -> Result<(), Trouble> {
-    let key = K::from_word(*out.allocator(), value)?;
-    let ticket = decimal(ticket).ok_or(Trouble::NotUnderstood)?;
-    book.add(&key?, ticket)?;
-    put_text(out, "added")?;
-    Ok(())
-}
-
-fn take<K: Spelled, B: Book<K>>(
-    book: &mut B,
-    value: &[u8],
-    out: &mut Vec<u8>,
-) -> Result<(), Trouble> {
-    let key = K::from_word(*out.allocator(), value)??;
-    let ticket = book.take(&key)?;
-    put_ticket(out, ticket)
-}
-
-fn find<K: Spelled, B: Book<K>>(
-    book: &mut B,
-    value: &[u8],
-    out: &mut Vec<u8>,
-) -> Result<(), Trouble> {
-    let key = K::from_word(*out.allocator(), value)??;
-    match book.find(&key)? {
-        Some(ticket) => put_ticket(out, ticket),
-        None => put_none(out),
-    }
-}
-
-fn put_ticket(out: &mut Vec<u8>, ticket: u32) -> Result<(), Trouble> {
-    put_text(out, "ticket ")?;
-    put_number(out, ticket)?;
-    Ok(())
-}
-
-fn put_none(out: &mut Vec<u8>) -> Result<(), Trouble> {
-    put_text(out, "none")?;
-    Ok(())
-}
-
-fn put_entry<K: Spelled>(out: &mut Vec<u8>, found: Option<Entry<K>>) -> Result<(), Trouble> {
+// The pair that a search found, if it found one.
+fn found<K: Spelled>(heap: Global, found: Option<Entry<K>>) -> Result<String, AllocError> {
     match found {
-        Some(entry) => {
-            entry.key.spell(out)?;
-            put_text(out, " ")?;
-            put_ticket(out, entry.ticket)
-        }
-        None => put_none(out),
+        Some(Entry { key, ticket }) => format!(in heap; "{} ticket {ticket}", Word(key)),
+        None => String::from_str(heap, "none"),
     }
-}
-
-fn put_count<K: Spelled, B: Book<K>>(book: &B, out: &mut Vec<u8>) -> Result<(), Trouble> {
-    put_number(out, book.count())?;
-    put_text(out, " of ")?;
-    put_number(out, book.capacity())?;
-    Ok(())
 }

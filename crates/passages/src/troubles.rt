@@ -1,10 +1,17 @@
 //! What keeps a command from a result.
 
+ghost use Rattle.std.specs.Prelude.{◌≡◌, ◌≢◌, ◌⊎◌};
+ghost use Rattle.passages.specs.declared.troubles.Trouble.TheVariants.{NotUnderstood};
+
+use hex::FromHexError;
 use keys::Refusal;
 use std::alloc::{AllocError, AllocFailed};
+use std::fmt;
+use std::num::ParseIntError;
+use std::str::Utf8Error;
 
 /// Why a command has no result.
-#[derive(Clone, Copy)]
+#[derive(Clone, Copy, PartialEq, Eq, Debug)]
 pub enum Trouble {
     /// the command is unknown, or its words are too few, too many or not of their form
     NotUnderstood,
@@ -12,6 +19,18 @@ pub enum Trouble {
     NoBook,
     Refused(Refusal),
     OutOfMemory,
+}
+
+impl fmt::Display for Trouble {
+    fn fmt<W: fmt::Write>(&self, f: &mut fmt::Formatter<W>) -> fmt::Result {
+        match self {
+            Trouble::NotUnderstood => f.write_str("not understood"),
+            Trouble::NoCipher => f.write_str("no cipher is set"),
+            Trouble::NoBook => f.write_str("no book is open"),
+            Trouble::Refused(refusal) => write!(f, "refused {}, {refusal}", refusal.number()),
+            Trouble::OutOfMemory => f.write_str("out of memory"),
+        }
+    }
 }
 
 impl From<Refusal> for Trouble {
@@ -29,5 +48,36 @@ impl From<AllocError> for Trouble {
 impl<T: Drop> From<AllocFailed<T>> for Trouble {
     fn from(_error: AllocFailed<T>) -> Trouble {
         Trouble::OutOfMemory
+    }
+}
+
+impl From<FromHexError> for Trouble {
+    ghost use Rattle.hex.specs.declared.error.FromHexError.{FromHexError};
+    ghost use Rattle.passages.specs.declared.troubles.Trouble.{Trouble};
+
+    ghost from_gives = { λ error trouble. (trouble ≡ Trouble.OutOfMemory)
+        ⊎ ((error ≢ FromHexError.OutOfMemory) × (trouble ≡ NotUnderstood)) };
+
+    fn from(error: FromHexError) -> Trouble {
+        match error {
+            FromHexError::OutOfMemory => Trouble::OutOfMemory,
+            _ => Trouble::NotUnderstood,
+        }
+    }
+}
+
+impl From<Utf8Error> for Trouble {
+    ghost from_gives = { λ _ trouble. trouble ≡ NotUnderstood };
+
+    fn from(_error: Utf8Error) -> Trouble {
+        Trouble::NotUnderstood
+    }
+}
+
+impl From<ParseIntError> for Trouble {
+    ghost from_gives = { λ _ trouble. trouble ≡ NotUnderstood };
+
+    fn from(_error: ParseIntError) -> Trouble {
+        Trouble::NotUnderstood
     }
 }

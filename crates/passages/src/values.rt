@@ -3,10 +3,12 @@
 ghost use Rattle.std.specs.Prelude.{◌≡◌};
 ghost use Rattle.passages.specs.Names.{graphic_only};
 
+use crate::replies::Hex;
 use crate::troubles::Trouble;
-use crate::{replies, words};
+use crate::words::{cut, decimal, hex_bytes, signed_decimal};
 use keys::{Count, KeyKind, Level, Name, Pair, Refusal};
-use std::alloc::{AllocError, Global};
+use std::alloc::Global;
+use std::{fmt, str};
 
 /// A lock's number and a minute.
 pub type Passage = Pair<Count, Count>;
@@ -14,70 +16,70 @@ pub type Passage = Pair<Count, Count>;
 /// A kind of values that are written as words.
 pub trait Spelled: KeyKind {
     /// The value that a word spells, or the kind's refusal; a word that is not of the kind's form is not understood.
+    /// The two are apart because all words of a line have to be of their form before any value is refused.
     fn from_word(heap: Global, word: &[u8]) -> Result<Result<Self, Refusal>, Trouble>;
 
     /// Writes the word that spells the value.
-    fn spell(&self, out: &mut Vec<u8>) -> Result<(), AllocError>;
+    fn spell<W: fmt::Write>(&self, f: &mut fmt::Formatter<W>) -> fmt::Result;
+}
+
+/// A value as the word that spells it.
+#[derive(Clone, Copy)]
+pub struct Word<K>(pub K);
+
+impl<K: Spelled> fmt::Display for Word<K> {
+    fn fmt<W: fmt::Write>(&self, f: &mut fmt::Formatter<W>) -> fmt::Result {
+        self.0.spell(f)
+    }
 }
 
 impl Spelled for Count {
     fn from_word(_heap: Global, word: &[u8]) -> Result<Result<Count, Refusal>, Trouble> {
-        let number = words::decimal(word).ok_or(Trouble::NotUnderstood)?;
-        Ok(Ok(Count(number)))
+        Ok(Ok(Count(decimal(word)?)))
     }
 
-    fn spell(&self, out: &mut Vec<u8>) -> Result<(), AllocError> {
-        replies::put_number(out, self.0)
+    fn spell<W: fmt::Write>(&self, f: &mut fmt::Formatter<W>) -> fmt::Result {
+        write!(f, "{}", self.0)
     }
 }
 
 impl Spelled for Level {
     fn from_word(_heap: Global, word: &[u8]) -> Result<Result<Level, Refusal>, Trouble> {
-        let number = words::signed_decimal(word).ok_or(Trouble::NotUnderstood)?;
-        Ok(Ok(Level(number)))
+        Ok(Ok(Level(signed_decimal(word)?)))
     }
 
-    fn spell(&self, out: &mut Vec<u8>) -> Result<(), AllocError> {
-        replies::put_number(out, self.0)
+    fn spell<W: fmt::Write>(&self, f: &mut fmt::Formatter<W>) -> fmt::Result {
+        write!(f, "{}", self.0)
     }
 }
 
 impl Spelled for Passage {
     fn from_word(_heap: Global, word: &[u8]) -> Result<Result<Passage, Refusal>, Trouble> {
-        let (lock, minute) = words::cut(word, b'/').ok_or(Trouble::NotUnderstood)?;
-        let first = words::decimal(lock).ok_or(Trouble::NotUnderstood)?;
-        let second = words::decimal(minute).ok_or(Trouble::NotUnderstood)?;
+        let (lock, minute) = cut(word, b'/').ok_or(Trouble::NotUnderstood)?;
         Ok(Ok(Pair {
-            first: Count(first),
-            second: Count(second),
+            first: Count(decimal(lock)?),
+            second: Count(decimal(minute)?),
         }))
     }
 
-    fn spell(&self, out: &mut Vec<u8>) -> Result<(), AllocError> {
-        self.first.spell(out)?;
-        replies::put_text(out, "/")?;
-        self.second.spell(out)
+    fn spell<W: fmt::Write>(&self, f: &mut fmt::Formatter<W>) -> fmt::Result {
+        write!(f, "{}/{}", self.first.0, self.second.0)
     }
 }
 
 impl Spelled for Name {
     fn from_word(heap: Global, word: &[u8]) -> Result<Result<Name, Refusal>, Trouble> {
         match word.strip_prefix(HEX) {
-            Some(digits) => {
-                let bytes = words::hex(heap, digits)?;
-                Ok(Name::new(bytes.as_slice()))
-            }
+            Some(digits) => Ok(Name::new(hex_bytes(heap, digits)?.as_slice())),
             None => Ok(Name::new(word)),
         }
     }
 
-    fn spell(&self, out: &mut Vec<u8>) -> Result<(), AllocError> {
-        let text = self.text();
-        if stands_bare(text) {
-            return out.extend_from_slice(text);
+    fn spell<W: fmt::Write>(&self, f: &mut fmt::Formatter<W>) -> fmt::Result {
+        match str::from_utf8(self.text()) {
+            Ok(text) if stands_bare(self.text()) => f.write_str(text),
+            _ => write!(f, "hex:{}", Hex(self.text())),
         }
-        out.extend_from_slice(HEX)?;
-        replies::put_hex(out, text)
     }
 }
 
@@ -93,10 +95,5 @@ fn stands_bare(text: &[u8]) -> bool {
 fn are_graphic(text: &[u8]) -> bool
     ensures { result ≡ graphic_only text.now }
 {
-    for byte in text {
-        if !byte.is_ascii_graphic() {
-            return false;
-        }
-    }
-    true
+    text.iter().all(|byte| byte.is_ascii_graphic())
 }

@@ -1,10 +1,8 @@
 //! The published vectors of SipHash-2-4: the table of the reference implementation.
 
-use crate::reports::{tell_bytes, tell_number};
+use crate::SECRET;
+use crate::reports::{Hex, tell};
 use std::io;
-
-// The key is the bytes 0 to 15.
-const KEY: [u8; 16] = [0, 1, 2, 3, 4, 5, 6, 7, 8, 9, 10, 11, 12, 13, 14, 15];
 
 // The longest message; the others are its beginnings.
 const MESSAGE: [u8; 64] = [
@@ -83,16 +81,19 @@ const VECTORS: [[u8; 8]; 64] = [
 
 /// Runs every vector, and one of them again as a number.
 pub fn run(rt: &impl Print) -> io::Result<()> {
-    for length in 0..64usize {
-        let found = siphash::hash_bytes(&KEY, &MESSAGE[0..length]);
-        print!(rt; "{length} bytes, ")?;
-        tell_bytes(rt, "hashed", &found, &VECTORS[length])?;
+    for (length, expected) in VECTORS.iter().enumerate() {
+        let found = siphash::hash_bytes(&SECRET, &MESSAGE[..length]);
+        tell(
+            rt,
+            format_args!("{length} bytes, hashed"),
+            Hex(&found),
+            Hex(expected),
+        )?;
     }
-    let found = siphash::hash(&KEY, &MESSAGE[0..15]);
-    tell_number(
+    tell(
         rt,
         "15 bytes, hashed to a number",
-        found,
+        siphash::hash(&SECRET, &MESSAGE[..15]),
         0xa129ca6149be45e5,
     )
 }

@@ -1,7 +1,8 @@
 //! Key kinds: what they write and read, and what they refuse.
 
-use crate::reports::{tell_bytes, tell_refusal};
+use crate::reports::{Hex, tell, tell_refusal};
 use keys::{Count, KeyKind, Level, Name, Pair, Refusal};
+use std::fmt::Display;
 use std::io;
 
 /// A pair that no book or cipher serves: two names and a count have 36 key bytes.
@@ -18,76 +19,81 @@ pub fn too_wide() -> Result<TooWide, Refusal> {
     })
 }
 
-pub fn run(rt: &impl Print) -> io::Result<()> {
-    tell_keys(rt)?;
-    tell_names(rt)?;
-    tell_buffers(rt, "count", Ok(Count(1030)))?;
-    tell_buffers(rt, "level", Ok(Level(-350)))?;
-    tell_buffers(
-        rt,
-        "passage",
-        Ok(Pair {
-            first: Count(12),
-            second: Count(405),
-        }),
-    )?;
-    tell_buffers(rt, "name", Name::new(b"Heron"))?;
-    tell_too_wide(rt)
-}
+// Levels and their keys: the bytes of the distance from the lowest level.
+const LEVELS: [(&str, i32, [u8; 4]); 4] = [
+    ("level -1", -1, [0x7f, 0xff, 0xff, 0xff]),
+    ("level 0", 0, [0x80, 0, 0, 0]),
+    ("the lowest level", i32::MIN, [0, 0, 0, 0]),
+    ("the highest level", i32::MAX, [0xff, 0xff, 0xff, 0xff]),
+];
 
-// Key bytes: a level's are those of its distance from the lowest level.
-fn tell_keys(rt: &impl Print) -> io::Result<()> {
-    tell_key(rt, "key of level -1", &Level(-1), &[0x7f, 0xff, 0xff, 0xff])?;
-    tell_key(rt, "key of level 0", &Level(0), &[0x80, 0, 0, 0])?;
-    tell_key(
-        rt,
-        "key of the lowest level",
-        &Level(-0x8000_0000),
-        &[0, 0, 0, 0],
-    )?;
-    tell_key(
-        rt,
-        "key of the highest level",
-        &Level(0x7fff_ffff),
-        &[0xff, 0xff, 0xff, 0xff],
-    )?;
-    tell_key(rt, "key of count 1030", &Count(1030), &[0, 0, 4, 6])?;
+// Names with none, 16 and 17 bytes, and with a zero byte.
+const NAMES: [(&str, &[u8], Option<Refusal>); 5] = [
+    ("name of no bytes", b"", None),
+    ("name of 16 bytes", b"0123456789abcdef", None),
+    (
+        "name of 17 bytes",
+        b"0123456789abcdefg",
+        Some(Refusal::NoValue),
+    ),
+    ("name with a zero byte", b"a\0b", Some(Refusal::NoValue)),
+    (
+        "name with a zero byte at its end",
+        b"a\0",
+        Some(Refusal::NoValue),
+    ),
+];
+
+pub fn run(rt: &impl Print) -> io::Result<()> {
     let passage = Pair {
         first: Count(12),
         second: Count(405),
     };
+    for (name, level, key) in LEVELS {
+        tell_key(rt, format_args!("key of {name}"), &Level(level), &key)?;
+    }
+    tell_key(rt, "key of count 1030", &Count(1030), &[0, 0, 4, 6])?;
     tell_key(
         rt,
         "key of passage 12/405",
         &passage,
         &[0, 0, 0, 12, 0, 0, 1, 149],
-    )
+    )?;
+    tell_names(rt)?;
+    tell_buffers(rt, "count", Ok(Count(1030)))?;
+    tell_buffers(rt, "level", Ok(Level(-350)))?;
+    tell_buffers(rt, "passage", Ok(passage))?;
+    tell_buffers(rt, "name", Name::new(b"Heron"))?;
+    tell_too_wide(rt)
 }
 
-fn tell_key<K: KeyKind>(rt: &impl Print, case: &str, value: &K, expected: &[u8]) -> io::Result<()> {
+fn tell_key<K: KeyKind>(
+    rt: &impl Print,
+    case: impl Display + Drop,
+    value: &K,
+    expected: &[u8],
+) -> io::Result<()> {
     let mut buffer = [0; 32];
     match value.write(&mut buffer) {
         Ok(()) => {
-            let width = (K::width() as usize).min(32);
-            tell_bytes(rt, case, &buffer[0..width], expected)
+            let width = usize::from(K::width()).min(32);
+            tell(rt, case, Hex(&buffer[..width]), Hex(expected))
         }
-        refused => tell_refusal(rt, case, refused, 0),
+        refused => tell_refusal(rt, case, refused, None),
     }
 }
 
-// Names with none, 16 and 17 bytes, and with a zero byte; zeros before the end of the key are no name.
+// Zeros before the end of the key are no name.
 fn tell_names(rt: &impl Print) -> io::Result<()> {
-    tell_refusal(rt, "name of no bytes", Name::new(b""), 0)?;
-    tell_refusal(rt, "name of 16 bytes", Name::new(b"0123456789abcdef"), 0)?;
-    tell_refusal(rt, "name of 17 bytes", Name::new(b"0123456789abcdefg"), 7)?;
-    tell_refusal(rt, "name with a zero byte", Name::new(b"a\0b"), 7)?;
-    tell_refusal(rt, "name with a zero byte at its end", Name::new(b"a\0"), 7)?;
-    tell_refusal(rt, "name read from 16 zeros", Name::read(&[0; 16]), 0)?;
+    for (case, text, expected) in NAMES {
+        tell_refusal(rt, case, Name::new(text), expected)?;
+    }
+    tell_refusal(rt, "name read from 16 zeros", Name::read(&[0; 16]), None)?;
     tell_refusal(
         rt,
         "name read from a, 0, b and zeros",
         Name::read(b"a\0b\0\0\0\0\0\0\0\0\0\0\0\0\0"),
-        7,
+        Some(Refusal::NoValue),
     )
 }
 
@@ -99,13 +105,14 @@ fn tell_buffers<K: KeyKind>(
 ) -> io::Result<()> {
     let value = match value {
         Ok(value) => value,
-        refused => return tell_refusal(rt, kind, refused, 0),
+        refused => return tell_refusal(rt, kind, refused, None),
     };
-    let width = (K::width() as usize).clamp(1, 32);
-    tell_buffer(rt, kind, &value, &mut [], 2)?;
-    tell_buffer(rt, kind, &value, &mut [0; 33][0..width - 1], 2)?;
-    tell_buffer(rt, kind, &value, &mut [0; 33][0..width], 0)?;
-    tell_buffer(rt, kind, &value, &mut [0; 33][0..width + 1], 0)
+    let width = usize::from(K::width()).clamp(1, 32);
+    let short = Some(Refusal::ShortBuffer);
+    tell_buffer(rt, kind, &value, &mut [], short)?;
+    tell_buffer(rt, kind, &value, &mut [0; 33][..width - 1], short)?;
+    tell_buffer(rt, kind, &value, &mut [0; 33][..width], None)?;
+    tell_buffer(rt, kind, &value, &mut [0; 33][..width + 1], None)
 }
 
 fn tell_buffer<K: KeyKind>(
@@ -113,27 +120,36 @@ fn tell_buffer<K: KeyKind>(
     kind: &str,
     value: &K,
     buffer: &mut [u8],
-    refusal: u8,
+    expected: Option<Refusal>,
 ) -> io::Result<()> {
     let length = buffer.len();
-    print!(rt; "{kind}, buffer of {length} bytes, ")?;
-    tell_refusal(rt, "written", value.write(buffer), refusal)?;
-    print!(rt; "{kind}, buffer of {length} bytes, ")?;
-    tell_refusal(rt, "read", K::read(buffer), refusal)
+    tell_refusal(
+        rt,
+        format_args!("{kind}, buffer of {length} bytes, written"),
+        value.write(buffer),
+        expected,
+    )?;
+    tell_refusal(
+        rt,
+        format_args!("{kind}, buffer of {length} bytes, read"),
+        K::read(buffer),
+        expected,
+    )
 }
 
 // A kind of more than 32 bytes is refused, however long the buffer.
 fn tell_too_wide(rt: &impl Print) -> io::Result<()> {
     let mut buffer = [0; 64];
-    let written = match too_wide() {
-        Ok(wide) => wide.write(&mut buffer),
-        Err(refusal) => Err(refusal),
-    };
-    tell_refusal(rt, "a kind of over 32 bytes written", written, 1)?;
+    tell_refusal(
+        rt,
+        "a kind of over 32 bytes written",
+        too_wide().and_then(|wide| wide.write(&mut buffer)),
+        Some(Refusal::KindWidth),
+    )?;
     tell_refusal(
         rt,
         "a kind of over 32 bytes read",
         TooWide::read(&buffer),
-        1,
+        Some(Refusal::KindWidth),
     )
 }

@@ -3,62 +3,79 @@
 use keys::Refusal;
 use sealing::Comparison;
 use std::cmp::Ordering;
-use std::io;
+use std::fmt::Display;
+use std::{fmt, io};
 
-fn verdict(held: bool) -> &'static str {
-    if held { "ok" } else { "DIFFERS" }
-}
-
-/// Tells the bytes that came of a case.
-pub fn tell_bytes(rt: &impl Print, case: &str, found: &[u8], expected: &[u8]) -> io::Result<()> {
-    let verdict = verdict(found == expected);
-    print!(rt; "{case}: ")?;
-    for byte in found {
-        print!(rt; "{byte:02x}")?;
-    }
-    println!(rt; ": {verdict}")
-}
-
-/// Tells the number that came of a case.
-pub fn tell_number(rt: &impl Print, case: &str, found: u64, expected: u64) -> io::Result<()> {
-    let verdict = verdict(found == expected);
+/// Tells what came of a case, and whether it is what was to come.
+pub fn tell<T: Display + PartialEq + Drop>(
+    rt: &impl Print,
+    case: impl Display + Drop,
+    found: T,
+    expected: T,
+) -> io::Result<()> {
+    let verdict = if found == expected { "ok" } else { "DIFFERS" };
     println!(rt; "{case}: {found}: {verdict}")
 }
 
-/// Tells how two keys compared.
-pub fn tell_comparison(
-    rt: &impl Print,
-    case: &str,
-    found: Comparison,
-    order: Ordering,
-    place: u16,
-) -> io::Result<()> {
-    let word = match found.order {
-        Ordering::Less => "less",
-        Ordering::Equal => "equal",
-        Ordering::Greater => "greater",
-    };
-    let at = found.place;
-    let verdict = verdict(found.order == order && at == place);
-    println!(rt; "{case}: {word} at {at}: {verdict}")
-}
-
-/// Tells the refusal that came of a case; the number expected is 0 where there is to be none.
+/// Tells whether a case was refused, and by which refusal it was to be, if by any.
 pub fn tell_refusal<T: Drop>(
     rt: &impl Print,
-    case: &str,
+    case: impl Display + Drop,
     found: Result<T, Refusal>,
-    expected: u8,
+    expected: Option<Refusal>,
 ) -> io::Result<()> {
-    match found {
-        Ok(_) => {
-            let verdict = verdict(expected == 0);
-            println!(rt; "{case}: accepted: {verdict}")
+    tell(rt, case, Answer(found.err()), Answer(expected))
+}
+
+/// Bytes, two hex digits each.
+#[derive(Clone, Copy, PartialEq)]
+pub struct Hex<'a>(pub &'a [u8]);
+
+impl fmt::Display for Hex<'_> {
+    fn fmt<W: fmt::Write>(&self, f: &mut fmt::Formatter<W>) -> fmt::Result {
+        for byte in self.0 {
+            write!(f, "{byte:02x}")?;
         }
-        Err(refusal) => {
-            let number = refusal.number();
-            let verdict = verdict(number == expected);
-            println!(rt; "{case}: refused {number}: {verdict}")
+        Ok(())
+    }
+}
+
+/// How two keys compare, and at which place.
+#[derive(Clone, Copy, PartialEq)]
+pub struct Compared {
+    pub order: Ordering,
+    pub place: u16,
+}
+
+impl From<Comparison> for Compared {
+    fn from(comparison: Comparison) -> Compared {
+        Compared {
+            order: comparison.order,
+            place: comparison.place,
+        }
+    }
+}
+
+impl fmt::Display for Compared {
+    fn fmt<W: fmt::Write>(&self, f: &mut fmt::Formatter<W>) -> fmt::Result {
+        let order = match self.order {
+            Ordering::Less => "less",
+            Ordering::Equal => "equal",
+            Ordering::Greater => "greater",
+        };
+        write!(f, "{order} at {}", self.place)
+    }
+}
+
+// Why a call declined, by its number, or that it did not.
+#[derive(Clone, Copy, PartialEq)]
+struct Answer(Option<Refusal>);
+
+impl fmt::Display for Answer {
+    fn fmt<W: fmt::Write>(&self, f: &mut fmt::Formatter<W>) -> fmt::Result {
+        match self.0 {
+            Some(refusal) => write!(f, "refused {}", refusal.number()),
+            None => f.write_str("accepted"),
         }
     }
 }
