@@ -7,7 +7,6 @@ use crate::shelves::{Question, Shelf};
 use crate::troubles::Trouble;
 use crate::words::words_of;
 use std::alloc::{AllocError, Global};
-use std::cmp::Ordering;
 use std::io;
 use std::io::Write;
 
@@ -113,13 +112,7 @@ impl Desk {
 fn compare(heap: Global, a: KeyWords, b: KeyWords) -> Result<String, Trouble> {
     let a = a.read(heap)?;
     let b = b.read(heap)?;
-    let comparison = sealing::compare(&a?, &b?);
-    let order = match comparison.order {
-        Ordering::Less => "less",
-        Ordering::Equal => "equal",
-        Ordering::Greater => "greater",
-    };
-    Ok(format!(in heap; "{order} at {}", comparison.place)?)
+    Ok(format!(in heap; "{}", sealing::compare(&a?, &b?))?)
 }
 
 // The words that stand before a result: the secret of a cipher is never shown.

@@ -1,5 +1,6 @@
 -- Comparing sealed keys.
-use Rattle.std.specs.Prelude.{◌≡◌, ℕ, suc, ◌+◌, ◌%◌, ◌<◌, ◌≤◌, Bool, true, false, cond, List, [], ◌∷◌, Option, MatchOption, slice_index, ◌==◌, ◌≢◌, nat_lt}
+use Rattle.std.specs.Prelude.{◌≡◌, ℕ, suc, ◌+◌, ◌%◌, ◌<◌, ◌≤◌, Bool, true, false, cond, List, [], ◌∷◌, Option, MatchOption, slice_index, ◌==◌, ◌≢◌, nat_lt, ◌++◌, codes}
+use Rattle.std.specs.Fmt.{decimal}
 use Rattle.std.specs.declared.cmp.Ordering.TheVariants.{Less, Equal, Greater}
 use Rattle.std.specs.declared.cmp.Ordering.{Ordering}
 use Rattle.digits.specs.Positional.{trits}
@@ -42,3 +43,12 @@ difference_from place (false ∷ xs) (true ∷ ys) = place
 -- the place of the first different bit, from 1
 abbrev pub first_different_bit : List Bool → List Bool → ℕ
 first_different_bit xs ys = difference_from 1 xs ys
+
+-- how a comparison is told
+abbrev pub order_text : Ordering → List ℕ
+order_text Less = codes "less"
+order_text Equal = codes "equal"
+order_text Greater = codes "greater"
+
+abbrev pub comparison_text : Comparison → List ℕ
+comparison_text c = order_text c.order ++ codes " at " ++ decimal c.place

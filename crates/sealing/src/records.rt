@@ -1,4 +1,8 @@
+ghost use Rattle.std.specs.Prelude.{Some};
+ghost use Rattle.sealing.specs.Compared.{comparison_text};
+
 use std::cmp::Ordering;
+use std::fmt;
 
 // How many bytes the trits of the widest key take: 256 trits, five to a byte.
 pub(crate) const PACKED: usize = 52;
@@ -16,4 +20,18 @@ pub struct SealedKey {
 pub struct Comparison {
     pub order: Ordering,
     pub place: u16,
+}
+
+impl fmt::Display for Comparison {
+    ghost output = { λ comparison. Some (comparison_text comparison) };
+
+    fn fmt<W: fmt::Write>(&self, f: &mut fmt::Formatter<W>) -> fmt::Result {
+        let order = match self.order {
+            Ordering::Less => "less",
+            Ordering::Equal => "equal",
+            Ordering::Greater => "greater",
+        };
+        let place = self.place;
+        write!(f, "{order} at {place}")
+    }
 }

@@ -1,8 +1,6 @@
 //! One line for each case: what was tried, what came of it, and the verdict.
 
 use keys::Refusal;
-use sealing::Comparison;
-use std::cmp::Ordering;
 use std::fmt::Display;
 use std::{fmt, io};
 
@@ -37,33 +35,6 @@ impl fmt::Display for Hex<'_> {
             write!(f, "{byte:02x}")?;
         }
         Ok(())
-    }
-}
-
-/// How two keys compare, and at which place.
-#[derive(Clone, Copy, PartialEq)]
-pub struct Compared {
-    pub order: Ordering,
-    pub place: u16,
-}
-
-impl From<Comparison> for Compared {
-    fn from(comparison: Comparison) -> Compared {
-        Compared {
-            order: comparison.order,
-            place: comparison.place,
-        }
-    }
-}
-
-impl fmt::Display for Compared {
-    fn fmt<W: fmt::Write>(&self, f: &mut fmt::Formatter<W>) -> fmt::Result {
-        let order = match self.order {
-            Ordering::Less => "less",
-            Ordering::Equal => "equal",
-            Ordering::Greater => "greater",
-        };
-        write!(f, "{order} at {}", self.place)
     }
 }
 

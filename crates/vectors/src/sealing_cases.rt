@@ -2,10 +2,10 @@
 
 use crate::SECRET;
 use crate::key_cases::{TooWide, too_wide};
-use crate::reports::{Compared, Hex, tell, tell_refusal};
+use crate::reports::{Hex, tell, tell_refusal};
 use keys::{Count, KeyKind, Level, Name, Pair, Refusal};
 use masks::HashSource;
-use sealing::SealedKey;
+use sealing::{Comparison, SealedKey};
 use std::cmp::Ordering;
 use std::io;
 
@@ -87,8 +87,8 @@ fn tell_compared(rt: &impl Print) -> io::Result<()> {
             (Ok(a), Ok(b)) => tell(
                 rt,
                 format_args!("widths {width_a} and {width_b}, compared"),
-                Compared::from(sealing::compare(&a, &b)),
-                Compared { order, place },
+                sealing::compare(&a, &b),
+                Comparison { order, place },
             )?,
             (refused, _) => tell_refusal(rt, "compared", refused, None)?,
         }
