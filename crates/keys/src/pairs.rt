@@ -12,7 +12,7 @@ use crate::{KeyKind, OrderedKey, Refusal, is_served};
 use std::cmp::Ordering;
 
 /// Two values as one: the first decides the order, and the second where the firsts are equal.
-#[derive(Clone, Copy)]
+#[derive(Clone, Copy, PartialEq, Eq)]
 pub struct Pair<A, B> {
     pub first: A,
     pub second: B,
