@@ -1,5 +1,5 @@
 -- An accepted add leaves the grown tree, and a refused one alters nothing but the count of comparisons.
-use Rattle.std.proofs.Common.{◌≡◌, ℕ, suc, ◌+◌, ◌≤◌, Bool, true, false, not, ltb, List, [], ◌∷◌, ◌++◌, length, is_some, Some, None, Ok, Err, Option, Ordering, sym, refl, ap, ◌∙◌, subst, arith}
+use Rattle.std.proofs.Common.{◌≡◌, ℕ, suc, ◌+◌, ◌≤◌, Bool, true, false, not, ltb, List, [], ◌∷◌, ◌++◌, length, is_some, Some, None, Ok, Err, Option, Result, Ordering, sym, refl, ap, ◌∙◌, subst, arith}
 use Rattle.std.specs.List.{slice_get, AllByRecursion}
 use Rattle.digits.proofs.Every.{all_weaker}
 use Rattle.keys.specs.Refusals.{asked}
@@ -11,7 +11,7 @@ use Rattle.avl.specs.Avl.{size, slots, insert, find, path}
 use Rattle.avl.specs.Model.{TreeModel, next_slot, free_after, counted, grown, served_step, Apart, Distinct, Sound}
 use Rattle.avl.proofs.Slots.{split, crossed, insert_size}
 use Rattle.avl.proofs.Soundness.{size_within}
-use Rattle.tree.specs.declared.changes.Insertion.{Insertion}
+use Rattle.tree.specs.declared.counted.Counted.{Counted}
 use Rattle.tree.specs.Links.{Link}
 use Rattle.tree.specs.declared.nodes.Node.{Node}
 use Rattle.tree.specs.declared.states.State.{State}
@@ -32,7 +32,7 @@ stays_free held (i ∷ free) fresh d =
     crossed (i ∷ held) free (parts.right.0, all_weaker (λ j. Apart j (i ∷ free)) (λ j. Apart j free) (λ j p. p.1) held parts.left_right)
 
 module _ {K : Type 0} {order : K → K → Ordering} {step : Call K → Answer K × TreeModel K} {nodes : List (Node K)} {state : State} {m : TreeModel K} (b : Begun order step nodes state m)
-    {k : K} {v : ℕ} {spot : Spot} (next : NextSpot nodes m spot) {after : List (Node K)} (kept : length after ≡ length nodes) {r : Insertion} (inserts : Inserts order nodes state.root spot.slot k v after r) where
+    {k : K} {v : ℕ} {spot : Spot} (next : NextSpot nodes m spot) {after : List (Node K)} (kept : length after ≡ length nodes) {r : Counted (Result Link Refusal)} (inserts : Inserts order nodes state.root spot.slot k v after r) where
   -- by what is found, and whether there is a slot, what an add answers and leaves
   abbrev add_outcome : Option ℕ → Bool → Answer K × TreeModel K
   add_outcome found some = (
@@ -47,8 +47,8 @@ module _ {K : Type 0} {order : K → K → Ordering} {step : Call K → Answer K
   inserted = inserts m.tree (can_grow nodes state m b.stands spot next)
 
   -- the same where it is known whether there is a slot
-  in_slot : (found : Option ℕ) {slot : Link} → spot.slot ≡ slot → GrownBy order found spot.slot nodes m.tree k v after r.top → GrownBy order found slot nodes m.tree k v after r.top
-  in_slot found is out = subst (λ slot. GrownBy order found slot nodes m.tree k v after r.top) is out
+  in_slot : (found : Option ℕ) {slot : Link} → spot.slot ≡ slot → GrownBy order found spot.slot nodes m.tree k v after r.answer → GrownBy order found slot nodes m.tree k v after r.answer
+  in_slot found is out = subst (λ slot. GrownBy order found slot nodes m.tree k v after r.answer) is out
 
   -- the numbers that an accepted add leaves
   abbrev grown_state : Link → State
@@ -73,10 +73,10 @@ module _ {K : Type 0} {order : K → K → Ordering} {step : Call K → Answer K
         sound = sound;
       }
 
-  pub added_done : {root : Link} → r.top ≡ Ok root → CallDone (step (Add k v)) (Added (Ok tt)) after (grown_state root)
+  pub added_done : {root : Link} → r.answer ≡ Ok root → CallDone (step (Add k v)) (Added (Ok tt)) after (grown_state root)
   added_done {root} is = by (find order m.tree k) (ltb (size m.tree) m.room) refl refl inserted.outcome
     where
-      by : (found : Option ℕ) (some : Bool) → find order m.tree k ≡ found → ltb (size m.tree) m.room ≡ some → GrownBy order found spot.slot nodes m.tree k v after r.top →
+      by : (found : Option ℕ) (some : Bool) → find order m.tree k ≡ found → ltb (size m.tree) m.room ≡ some → GrownBy order found spot.slot nodes m.tree k v after r.answer →
           CallDone (step (Add k v)) (Added (Ok tt)) after (grown_state root)
       by (Some held) some f e out = absurd (let no = out.0 in let z : ◌≡◌ {A = ℕ} 0 1 = cc in omega arith)
       by None false f e out = absurd (let no = (in_slot None (next.full e) out).0 in let z : ◌≡◌ {A = ℕ} 0 1 = cc in omega arith)
@@ -88,7 +88,7 @@ module _ {K : Type 0} {order : K → K → Ordering} {step : Call K → Answer K
           (grown_stands root f e (subst (λ root. Reshaped nodes after (next_slot m.free m.fresh ∷ slots m.tree) root (insert order m.tree k v (next_slot m.free m.fresh))) at grew.1.1))
 
   -- the count of pairs still fits: there are no more than slots
-  pub count_fits : {root : Link} → r.top ≡ Ok root → state.held + 1 ≤ 65535
+  pub count_fits : {root : Link} → r.answer ≡ Ok root → state.held + 1 ≤ 65535
   count_fits {root} is =
       let stood = stands_from_test after (grown_state root) (added_done is).leaves.sound in
       let within = size_within _ stood.sound in
@@ -97,16 +97,16 @@ module _ {K : Type 0} {order : K → K → Ordering} {step : Call K → Answer K
       omega arith
 
   -- an add that is refused only counts its comparisons
-  refused_done : {refusal told : Refusal} → r.top ≡ Err refusal → r.top ≡ Err told → after ≡ nodes →
+  refused_done : {refusal told : Refusal} → r.answer ≡ Err refusal → r.answer ≡ Err told → after ≡ nodes →
       served_step order m (Add k v) ≡ (Added (Err told), counted (path false order m.tree k) m) → CallDone (step (Add k v)) (Added (Err refusal)) after (counted_state state r.comparisons)
   refused_done {refusal} {told} is answers same step =
       let as_told : refusal ≡ told = cc in
       done_so (ap (λ e. Added (Err e)) as_told) same (ap (counted_state state) inserted.comparisons) (counted_done b (Add k v) step)
 
-  pub not_added_done : {refusal : Refusal} → r.top ≡ Err refusal → CallDone (step (Add k v)) (Added (Err refusal)) after (counted_state state r.comparisons)
+  pub not_added_done : {refusal : Refusal} → r.answer ≡ Err refusal → CallDone (step (Add k v)) (Added (Err refusal)) after (counted_state state r.comparisons)
   not_added_done {refusal} is = by (find order m.tree k) (ltb (size m.tree) m.room) refl refl inserted.outcome
     where
-      by : (found : Option ℕ) (some : Bool) → find order m.tree k ≡ found → ltb (size m.tree) m.room ≡ some → GrownBy order found spot.slot nodes m.tree k v after r.top →
+      by : (found : Option ℕ) (some : Bool) → find order m.tree k ≡ found → ltb (size m.tree) m.room ≡ some → GrownBy order found spot.slot nodes m.tree k v after r.answer →
           CallDone (step (Add k v)) (Added (Err refusal)) after (counted_state state r.comparisons)
       by (Some held) some f e out = refused_done is out.0 out.1 (add_is (Some held) some f e)
       by None false f e out = let none = in_slot None (next.full e) out in refused_done is none.0 none.1 (add_is None false f e)

@@ -3,14 +3,16 @@ use Rattle.std.proofs.Common.{◌≡◌, ℕ, suc, ◌+◌, ◌<◌, ◌≤◌, 
 use Rattle.std.proofs.lemmas.Bool.{cond-true, cond-false}
 use Rattle.std.specs.Option.{option_or}
 use Rattle.books.specs.declared.entries.Entry.{Entry}
-use Rattle.books.specs.Plain.{by_order, entry}
+use Rattle.books.specs.Plain.{by_order}
 use Rattle.avl.specs.Avl.{Avl, fork, height, find, or_else, seek, path}
 use Rattle.avl.proofs.Height.{path_low}
 use Rattle.tree.specs.Links.{Link}
 use Rattle.tree.specs.declared.nodes.Node.{Node}
 use Rattle.tree.specs.Descents.{FoundIn, SoughtIn}
+use Rattle.tree.specs.declared.nodes.Side.{Side}
+use Rattle.tree.specs.Sides.{link_on}
 use Rattle.tree.specs.Standing.{Stands, height_at}
-use Rattle.tree.proofs.Standing.{Opened, reads, absent, left_lower, right_lower}
+use Rattle.tree.proofs.Standing.{Opened, reads, absent, side_lower}
 
 -- a way down has come to a tree of which something is known, and the comparisons made and those to come are those of t
 pub record Walk {K : Type 0} (after : Bool) (order : K → K → Ordering) (nodes : List (Node K)) (s : K) (t : Avl K) (Known : Avl K → Type 0) (at : Link) (comparisons : ℕ) : Type 0 where
@@ -25,7 +27,7 @@ record WalkAt {K : Type 0} (after : Bool) (order : K → K → Ordering) (nodes 
   b : Avl K
   left : Stands nodes n.left a
   right : Stands nodes n.right b
-  known : Known (fork i n.key n.ticket a b)
+  known : Known (fork i n.entry.key n.entry.ticket a b)
   count : comparisons + suc (by_order c (path after order a s) (cond after (path after order b s) 0) (path after order b s)) ≡ path after order t s
 
 -- one of three, where it is known how the keys compare
@@ -40,13 +42,10 @@ module _ {K : Type 0} {after : Bool} {order : K → K → Ordering} {nodes : Lis
     walk_reads : Opened nodes i n w.rest
     walk_reads = reads nodes at i n w.rest w.stands is read
 
-    pub walk_falls_left : height_at nodes n.left < height_at nodes at
-    walk_falls_left = left_lower nodes at i n w.rest w.stands walk_reads
+    pub walk_falls : (side : Side) → height_at nodes (link_on side n) < height_at nodes at
+    walk_falls = side_lower nodes at i n w.rest w.stands walk_reads
 
-    pub walk_falls_right : height_at nodes n.right < height_at nodes at
-    walk_falls_right = right_lower nodes at i n w.rest w.stands walk_reads
-
-    walk_at : {c : Ordering} → c ≡ order s n.key → WalkAt after order nodes s t Known i n comparisons c
+    walk_at : {c : Ordering} → c ≡ order s n.entry.key → WalkAt after order nodes s t Known i n comparisons c
     walk_at e =
         let o = walk_reads in
         let p = picks (path after order o.a s) (cond after (path after order o.b s) 0) (path after order o.b s) e in
@@ -80,57 +79,57 @@ module _ {K : Type 0} {order : K → K → Ordering} {nodes : List (Node K)} {s 
   find_starts h = record { rest = t; stands = h; known = refl; count = omega arith }
 
   module _ {at : Link} {comparisons : ℕ} (w : FindsOn order nodes s t at comparisons) where
-    pub find_ends : at ≡ None → FoundIn order t s (record { ticket = None; comparisons = comparisons })
+    pub find_ends : at ≡ None → FoundIn order t s (record { answer = None; comparisons = comparisons })
     find_ends is =
         let e = absent nodes at w.rest w.stands is in
         record {
-          ticket = subst (λ u. find order u s ≡ find order t s) e w.known;
+          answer = subst (λ u. find order u s ≡ find order t s) e w.known;
           comparisons = let c = subst (λ u. comparisons + path false order u s ≡ path false order t s) e w.count in omega arith;
         }
 
     module _ {i : ℕ} {n : Node K} (is : at ≡ Some i) (read : n ≡ get_or nodes i n) where
-      pub find_goes_left : Less ≡ order s n.key → FindsOn order nodes s t n.left (comparisons + 1)
+      pub find_goes_left : Less ≡ order s n.entry.key → FindsOn order nodes s t n.left (comparisons + 1)
       find_goes_left e = let o = walk_at w is read e in record { rest = o.a; stands = o.left; known = sym (picks _ _ _ e) ∙ o.known; count = omega (arith, o.count) }
 
-      pub find_goes_right : Greater ≡ order s n.key → FindsOn order nodes s t n.right (comparisons + 1)
+      pub find_goes_right : Greater ≡ order s n.entry.key → FindsOn order nodes s t n.right (comparisons + 1)
       find_goes_right e = let o = walk_at w is read e in record { rest = o.b; stands = o.right; known = sym (picks _ _ _ e) ∙ o.known; count = omega (arith, o.count) }
 
-      pub find_meets : Equal ≡ order s n.key → FoundIn order t s (record { ticket = Some n.ticket; comparisons = comparisons + 1 })
-      find_meets e = let o = walk_at w is read e in record { ticket = sym (picks _ _ _ e) ∙ o.known; comparisons = omega (arith, o.count) }
+      pub find_meets : Equal ≡ order s n.entry.key → FoundIn order t s (record { answer = Some n.entry.ticket; comparisons = comparisons + 1 })
+      find_meets e = let o = walk_at w is read e in record { answer = sym (picks _ _ _ e) ∙ o.known; comparisons = omega (arith, o.count) }
 
   module _ {after : Bool} where
     pub seek_starts : {at : Link} → Stands nodes at t → SeeksOn after order nodes s None t at 0
     seek_starts h = record { rest = t; stands = h; known = or_none (seek after order t s); count = omega arith }
 
     module _ {at : Link} {comparisons : ℕ} (kept : Option (Entry K)) (w : SeeksOn after order nodes s kept t at comparisons) where
-      pub seek_ends : at ≡ None → SoughtIn after order t s (record { entry = kept; comparisons = comparisons })
+      pub seek_ends : at ≡ None → SoughtIn after order t s (record { answer = kept; comparisons = comparisons })
       seek_ends is =
           let e = absent nodes at w.rest w.stands is in
           record {
-            entry = subst (λ u. option_or (seek after order u s) kept ≡ seek after order t s) e w.known;
+            answer = subst (λ u. option_or (seek after order u s) kept ≡ seek after order t s) e w.known;
             comparisons = let c = subst (λ u. comparisons + path after order u s ≡ path after order t s) e w.count in omega arith;
           }
 
       module _ {i : ℕ} {n : Node K} (is : at ≡ Some i) (read : n ≡ get_or nodes i n) where
-        pub seek_goes_left : Less ≡ order s n.key → SeeksOn after order nodes s (Some (entry n.key n.ticket)) t n.left (comparisons + 1)
+        pub seek_goes_left : Less ≡ order s n.entry.key → SeeksOn after order nodes s (Some n.entry) t n.left (comparisons + 1)
         seek_goes_left e =
             let o = walk_at w is read e in
-            let here = or_kept (seek after order o.a s) kept (entry n.key n.ticket) in
+            let here = or_kept (seek after order o.a s) kept n.entry in
             record { rest = o.a; stands = o.left; known = sym (ap (λ r. option_or r kept) (picks _ _ _ e) ∙ here) ∙ o.known; count = omega (arith, o.count) }
 
-        pub seek_goes_right : Greater ≡ order s n.key → SeeksOn after order nodes s kept t n.right (comparisons + 1)
+        pub seek_goes_right : Greater ≡ order s n.entry.key → SeeksOn after order nodes s kept t n.right (comparisons + 1)
         seek_goes_right e =
             let o = walk_at w is read e in
             record { rest = o.b; stands = o.right; known = sym (ap (λ r. option_or r kept) (picks _ _ _ e)) ∙ o.known; count = omega (arith, o.count) }
 
-        pub seek_passes : Equal ≡ order s n.key → after ≡ true → SeeksOn after order nodes s kept t n.right (comparisons + 1)
+        pub seek_passes : Equal ≡ order s n.entry.key → after ≡ true → SeeksOn after order nodes s kept t n.right (comparisons + 1)
         seek_passes e on =
             let o = walk_at w is read e in
             let onward = cond-true after (path after order o.b s) 0 on in
             record { rest = o.b; stands = o.right; known = sym (ap (λ r. option_or r kept) (picks _ _ _ e ∙ cond-true after _ _ on)) ∙ o.known; count = omega (arith, o.count) }
 
-        pub seek_meets : Equal ≡ order s n.key → after ≡ false → SoughtIn after order t s (record { entry = Some (entry n.key n.ticket); comparisons = comparisons + 1 })
+        pub seek_meets : Equal ≡ order s n.entry.key → after ≡ false → SoughtIn after order t s (record { answer = Some n.entry; comparisons = comparisons + 1 })
         seek_meets e off =
             let o = walk_at w is read e in
             let done = cond-false after (path after order o.b s) 0 off in
-            record { entry = sym (ap (λ r. option_or r kept) (picks _ _ _ e ∙ cond-false after _ _ off)) ∙ o.known; comparisons = omega (arith, o.count) }
+            record { answer = sym (ap (λ r. option_or r kept) (picks _ _ _ e ∙ cond-false after _ _ off)) ∙ o.known; comparisons = omega (arith, o.count) }

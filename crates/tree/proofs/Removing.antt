@@ -1,27 +1,27 @@
 -- Removal: a tree that has lost a node, and a node that is put over it again.
-use Rattle.std.proofs.Common.{◌≡◌, ℕ, suc, ◌+◌, ◌<◌, ◌≤◌, false, List, [], ◌∷◌, ◌++◌, length, get_or, Some, None, Option, Ordering, Less, Equal, Greater, sym, refl, ap, ◌∙◌, subst, arith}
-use Rattle.digits.proofs.Every.{all_weaker, all_left, all_right}
+use Rattle.std.proofs.Common.{◌≡◌, ℕ, suc, ◌+◌, ◌<◌, ◌≤◌, false, List, [], ◌∷◌, ◌++◌, length, get_or, Some, None, Option, Ordering, sym, refl, ap, ◌∙◌, subst, arith}
+use Rattle.books.specs.declared.entries.Entry.{Entry}
 use Rattle.books.specs.Meaning.{OneMore}
-use Rattle.books.proofs.Cuts.{more_left, more_right, more_cons, all_without}
+use Rattle.books.proofs.Cuts.{all_without}
 use Rattle.avl.specs.Avl.{Avl, tip, fork, height, Balanced, slots, balance, least_slot, without_least, remove, freed, find, path}
-use Rattle.avl.specs.Model.{Apart}
 use Rattle.avl.proofs.Balance.{without_least_balanced, remove_balanced}
 use Rattle.avl.proofs.Height.{path_low}
 use Rattle.avl.proofs.Inorder.{without_least_slots, remove_slots}
-use Rattle.avl.proofs.Slots.{crossed, distinct_less}
-use Rattle.tree.specs.declared.changes.Gone.{Gone}
-use Rattle.tree.specs.declared.changes.Joint.{Joint}
-use Rattle.tree.specs.declared.changes.Least.{Least}
-use Rattle.tree.specs.declared.changes.Removal.{Removal}
+use Rattle.avl.proofs.Slots.{distinct_less}
 use Rattle.tree.specs.Links.{Link}
+use Rattle.tree.specs.declared.changes.Cut.{Cut}
+use Rattle.tree.specs.declared.counted.Counted.{Counted}
 use Rattle.tree.specs.declared.nodes.Node.{Node}
-use Rattle.tree.specs.Changes.{Changing, Changeable, Siding, Sided, LeastGone, TakesTheLeast, JoinedUp, JoinsUp, ShrunkBy, Removed, Removes}
+use Rattle.tree.specs.declared.nodes.Side.{Side}
+use Rattle.tree.specs.declared.nodes.Side.TheVariants.{Left, Right}
+use Rattle.tree.specs.Changes.{Spot, Changing, Changeable, Siding, Sided, LeastGone, TakesTheLeast, JoinedUp, JoinsUp, ShrunkBy, Removed, Removes}
 use Rattle.tree.specs.Shaping.{Joining, Joinable, Joins}
+use Rattle.tree.specs.Sides.{side_of, on, link_on, with_link}
 use Rattle.tree.specs.Standing.{height_at, Reshaped}
 use Rattle.tree.proofs.Descending.{picks}
-use Rattle.tree.proofs.Rotations.{both_steps, joins_left, joins_right}
-use Rattle.tree.proofs.Siding.{opened_sides, parts, left_changing, right_changing}
-use Rattle.tree.proofs.Standing.{Opened, reads, absent, left_lower, right_lower}
+use Rattle.tree.proofs.Rotations.{both_steps}
+use Rattle.tree.proofs.Siding.{by_side, same_key, opened_sides, apart_on, less_on, off_other, side_changing, rejoins}
+use Rattle.tree.proofs.Standing.{Opened, reads, side_lower, absent}
 
 -- the node n in slot i was read, to which the link leads
 pub record Root {K : Type 0} (nodes : List (Node K)) (at : Link) (i : ℕ) (n : Node K) : Type 0 where
@@ -39,26 +39,25 @@ module _ {K : Type 0} {nodes : List (Node K)} {at : Link} {i : ℕ} {n : Node K}
   pub root_sides : (t : Avl K) (h : Changing nodes at None t) → Siding nodes i n.left n.right (opened_root t h).a (opened_root t h).b
   root_sides t h = opened_sides nodes at None i n t h r.leads (opened_root t h)
 
-  pub sided : Changeable nodes at None → Sided nodes i n.left n.right
+  pub sided : Changeable nodes at None → Sided nodes i n
   sided (t, h) = ((opened_root t h).a, ((opened_root t h).b, root_sides t h))
 
-  pub falls_left : Changeable nodes at None → height_at nodes n.left < height_at nodes at
-  falls_left (t, h) = left_lower nodes at i n t h.placed.stands (opened_root t h)
-
-  pub falls_right : Changeable nodes at None → height_at nodes n.right < height_at nodes at
-  falls_right (t, h) = right_lower nodes at i n t h.placed.stands (opened_root t h)
+  pub falls : (side : Side) {from : Link} → from ≡ link_on side n → Changeable nodes at None → height_at nodes from < height_at nodes at
+  falls side from_is (t, h) = omega (arith, side_lower nodes at i n t h.placed.stands (opened_root t h) side, ap (height_at nodes) from_is)
 
   -- what holds of the node over the two sides holds of the tree
-  pub of_root : (P : Avl K → Type 0) (t : Avl K) (h : Changing nodes at None t) → P (fork i n.key n.ticket (opened_root t h).a (opened_root t h).b) → P t
+  pub of_root : (P : Avl K → Type 0) (t : Avl K) (h : Changing nodes at None t) → P (fork i n.entry.key n.entry.ticket (opened_root t h).a (opened_root t h).b) → P t
   of_root P t h p = subst P (sym (opened_root t h).is) p
 
 -- each side of a node can change by itself
-module _ {K : Type 0} {nodes : List (Node K)} {i : ℕ} {at left right : Link} where
-  pub left_changeable : left ≡ at → Sided nodes i left right → Changeable nodes at None
-  left_changeable is (a, (b, s)) = (a, subst (λ l. Changing nodes l None a) is (left_changing s None tt))
+side_can : {K : Type 0} {nodes : List (Node K)} {i : ℕ} (n : Node K) {a b : Avl K} (side : Side) {from : Link} → from ≡ link_on side n → Siding nodes i n.left n.right a b → Changing nodes from None (on side a b)
+side_can {nodes = nodes} n {a} {b} side is s = subst (λ l. Changing nodes l None (on side a b)) (sym is) (side_changing n s side None (nothing side))
+  where
+    nothing : (side : Side) → Spot nodes None (on side a b)
+    nothing side = tt
 
-  pub right_changeable : right ≡ at → Sided nodes i left right → Changeable nodes at None
-  right_changeable is (a, (b, s)) = (b, subst (λ l. Changing nodes l None b) is (right_changing s None tt))
+pub changeable : {K : Type 0} {nodes : List (Node K)} {i : ℕ} (n : Node K) (side : Side) {from : Link} → from ≡ link_on side n → Sided nodes i n → Changeable nodes from None
+changeable n side is (a, (b, s)) = (on side a b, side_can n side is s)
 
 -- from `nodes` to `mid` the tree t lost a node, and what is left stands at `top`
 record Lessened {K : Type 0} (nodes : List (Node K)) (t : Avl K) (mid : List (Node K)) (top : Link) (left : Avl K) : Type 0 where
@@ -67,41 +66,27 @@ record Lessened {K : Type 0} (nodes : List (Node K)) (t : Avl K) (mid : List (No
   reshaped : Reshaped nodes mid (slots t) top left
   no_higher : height left ≤ height t
 
--- a side of a node lost a node: slot i can be the node over both again, and in balance it is the whole tree without that node
-module _ {K : Type 0} {nodes : List (Node K)} {i : ℕ} {left right : Link} {a b : Avl K}
-    (s : Siding nodes i left right a b) {mid : List (Node K)} {top : Link} (kept : length mid ≡ length nodes) where
-  -- the left side lost a node
-  module _ {u : Avl K} (l : Lessened nodes a mid top u) where
-    left_one_more : OneMore l.slot (slots u ++ (i ∷ slots b)) (slots a ++ (i ∷ slots b))
-    left_one_more = more_left l.slot (slots u) (slots a) (i ∷ slots b) l.one_more
+-- a side of a node lost a node: the node can be put over both again, and in balance it is the whole tree without that one
+module _ {K : Type 0} {nodes : List (Node K)} {i : ℕ} (n : Node K) {a b : Avl K} (s : Siding nodes i n.left n.right a b) (side : Side)
+    {mid : List (Node K)} {top : Link} (kept : length mid ≡ length nodes) {u : Avl K} (l : Lessened nodes (on side a b) mid top u) where
+  one_less : OneMore l.slot (slots (on side u a) ++ (i ∷ slots (on side b u))) (slots a ++ (i ∷ slots b))
+  one_less = less_on i a b l.slot side u l.one_more
 
-    left_rejoins : Joining 250 mid i top right u b
-    left_rejoins =
-        joins_left 250 nodes mid i (slots a) top right u b l.reshaped s.joining.right_stands (crossed (slots a) (i ∷ slots b) (parts s).left_right).1
-        kept s.joining.within (omega (arith, l.no_higher, s.joining.left_low)) (omega (arith, s.joining.right_low)) (distinct_less l.slot _ _ left_one_more s.joining.distinct).1
+  side_low : (side : Side) → height (on side a b) ≤ 100
+  side_low Left = s.joining.left_low
+  side_low Right = s.joining.right_low
 
-    left_settles : (k : K) (v : ℕ) {after : List (Node K)} {at : Link} → Joins 250 (balance i k v) mid i top right after at → Reshaped nodes after (slots a ++ (i ∷ slots b)) at (balance i k v u b)
-    left_settles k v {after} {at} settled =
-        both_steps nodes mid after (slots a) _ (slots a ++ (i ∷ slots b)) top at u _ l.reshaped (settled u b left_rejoins)
-        (λ m apart. (all_left (λ x. m ≡ x → ⊥) (slots a) (i ∷ slots b) apart, all_without l.slot _ _ left_one_more (λ x. m ≡ x → ⊥) apart))
+  lost_rejoins : Joining 250 mid i (on side top n.left) (on side n.right top) (on side u a) (on side b u)
+  lost_rejoins = rejoins n s side kept l.reshaped (off_other n s side) (omega (arith, l.no_higher, side_low side)) (distinct_less l.slot _ _ one_less s.joining.distinct).1
 
-  -- the right side lost a node
-  module _ {u : Avl K} (l : Lessened nodes b mid top u) where
-    right_one_more : OneMore l.slot (slots a ++ (i ∷ slots u)) (slots a ++ (i ∷ slots b))
-    right_one_more = more_right l.slot (slots a) (i ∷ slots u) (i ∷ slots b) (more_cons l.slot i (slots u) (slots b) l.one_more)
-
-    right_rejoins : Joining 250 mid i left top a u
-    right_rejoins =
-        joins_right 250 nodes mid i (slots b) top left u a l.reshaped s.joining.left_stands (all_weaker (λ j. Apart j (i ∷ slots b)) (λ j. Apart j (slots b)) (λ j p. p.1) (slots a) (parts s).left_right)
-        kept s.joining.within (omega (arith, l.no_higher, s.joining.right_low)) (omega (arith, s.joining.left_low)) (distinct_less l.slot _ _ right_one_more s.joining.distinct).1
-
-    right_settles : (k : K) (v : ℕ) {after : List (Node K)} {at : Link} → Joins 250 (balance i k v) mid i left top after at → Reshaped nodes after (slots a ++ (i ∷ slots b)) at (balance i k v a u)
-    right_settles k v {after} {at} settled =
-        both_steps nodes mid after (slots b) _ (slots a ++ (i ∷ slots b)) top at u _ l.reshaped (settled a u right_rejoins)
-        (λ m apart. ((all_right (λ x. m ≡ x → ⊥) (slots a) (i ∷ slots b) apart).1, all_without l.slot _ _ right_one_more (λ x. m ≡ x → ⊥) apart))
+  lost_settles : {after : List (Node K)} {at : Link} → Joins 250 balance mid i (with_link side top n) after at →
+      Reshaped nodes after (slots a ++ (i ∷ slots b)) at (balance i n.entry.key n.entry.ticket (on side u a) (on side b u))
+  lost_settles {after} {at} settled =
+      both_steps nodes mid after (slots (on side a b)) _ (slots a ++ (i ∷ slots b)) top at u _ l.reshaped (settled _ _ lost_rejoins)
+      (λ m apart. (apart_on i a b side m apart, all_without l.slot _ _ one_less (λ x. m ≡ x → ⊥) apart))
 
 -- what taking the least pair out made of the tree t in slot j
-record LeastOut {K : Type 0} (nodes mid : List (Node K)) (j : ℕ) (t : Avl K) (least : Least K) : Type 0 where
+record LeastOut {K : Type 0} (nodes mid : List (Node K)) (j : ℕ) (t : Avl K) (least : Cut (Entry K)) : Type 0 where
   q : K
   w : ℕ
   c : Avl K
@@ -110,10 +95,10 @@ record LeastOut {K : Type 0} (nodes mid : List (Node K)) (j : ℕ) (t : Avl K) (
   gone : LeastGone nodes j q w c d mid least
 
 -- what is left of t
-abbrev least_left : {K : Type 0} {nodes mid : List (Node K)} {j : ℕ} {t : Avl K} {least : Least K} → LeastOut nodes mid j t least → Avl K
+abbrev least_left : {K : Type 0} {nodes mid : List (Node K)} {j : ℕ} {t : Avl K} {least : Cut (Entry K)} → LeastOut nodes mid j t least → Avl K
 least_left {j = j} l = without_least j l.q l.w l.c l.d
 
-module _ {K : Type 0} {nodes mid : List (Node K)} {j : ℕ} {least : Least K} where
+module _ {K : Type 0} {nodes mid : List (Node K)} {j : ℕ} {least : Cut (Entry K)} where
   -- a tree at a link to slot j is a node in that slot
   least_out : {at : Link} (t : Avl K) → Changing nodes at None t → at ≡ Some j → TakesTheLeast nodes j mid least → LeastOut nodes mid j t least
   least_out tip c is all = absurd (let z : ◌≡◌ {A = ℕ} 0 1 = cc in omega arith)
@@ -139,81 +124,82 @@ module _ {K : Type 0} {nodes mid : List (Node K)} {j : ℕ} {least : Least K} wh
       })
 
 -- what taking the least pair out of a tree answers and leaves; there is none in an absent tree
-abbrev LeastGoneOf : {K : Type 0} → List (Node K) → List (Node K) → Least K → Avl K → Type 0
+abbrev LeastGoneOf : {K : Type 0} → List (Node K) → List (Node K) → Cut (Entry K) → Avl K → Type 0
 LeastGoneOf nodes after r tip = Unit {0}
 LeastGoneOf nodes after r (fork i k v a b) = LeastGone nodes i k v a b after r
 
 module _ {K : Type 0} {nodes : List (Node K)} {i : ℕ} {n : Node K} (r : Root nodes (Some i) i n) where
   -- where the left side is absent, the root is the least
-  pub least_at_root : n.left ≡ None → TakesTheLeast nodes i nodes (record { key = n.key; ticket = n.ticket; slot = i; top = n.right })
+  pub least_at_root : n.left ≡ None → TakesTheLeast nodes i nodes (record { out = n.entry; slot = i; top = n.right })
   least_at_root none k v a b h =
-      let answer : Least K = record { key = n.key; ticket = n.ticket; slot = i; top = n.right } in
+      let answer : Cut (Entry K) = record { out = n.entry; slot = i; top = n.right } in
       let o = opened_root r (fork i k v a b) h in
       of_root r (LeastGoneOf nodes nodes answer) (fork i k v a b) h
-      (subst (λ u. LeastGone nodes i n.key n.ticket u o.b nodes answer) (sym (absent nodes n.left o.a o.left none))
-      (record { key = refl; ticket = refl; slot = refl; left = record { stands = o.right; frame = λ m apart. refl } }))
+      (subst (λ u. LeastGone nodes i n.entry.key n.entry.ticket u o.b nodes answer) (sym (absent nodes n.left o.a o.left none))
+      (record { out = refl; slot = refl; left = record { stands = o.right; frame = λ m apart. refl } }))
 
   -- else it is the least of the left side
-  module _ {j : ℕ} (is : n.left ≡ Some j) {mid : List (Node K)} (kept : length mid ≡ length nodes) {least : Least K} (below : TakesTheLeast nodes j mid least) where
+  module _ {j : ℕ} (is : n.left ≡ Some j) {mid : List (Node K)} (kept : length mid ≡ length nodes) {least : Cut (Entry K)} (below : TakesTheLeast nodes j mid least) where
     left_least : (t : Avl K) (h : Changing nodes (Some i) None t) → LeastOut nodes mid j (opened_root r t h).a least
-    left_least t h = least_out (opened_root r t h).a (left_changing (root_sides r t h) None tt) is below
+    left_least t h = least_out (opened_root r t h).a (side_can n Left refl (root_sides r t h)) is below
 
     left_lessens : (t : Avl K) (h : Changing nodes (Some i) None t) → Lessened nodes (opened_root r t h).a mid least.top (least_left (left_least t h))
     left_lessens t h = least_lessens (root_sides r t h).left_balanced (left_least t h)
 
-    pub least_rejoins : Changeable nodes (Some i) None → Joinable 250 mid i least.top n.right
-    least_rejoins (t, h) = (least_left (left_least t h), ((opened_root r t h).b, left_rejoins (root_sides r t h) kept (left_lessens t h)))
+    pub least_rejoins : Changeable nodes (Some i) None → Joinable 250 mid i (with_link Left least.top n)
+    least_rejoins (t, h) = (least_left (left_least t h), ((opened_root r t h).b, lost_rejoins n (root_sides r t h) Left kept (left_lessens t h)))
 
-    pub least_at_left : {after : List (Node K)} {top : Link} → Joins 250 (balance i n.key n.ticket) mid i least.top n.right after top →
-        TakesTheLeast nodes i after (record { key = least.key; ticket = least.ticket; slot = least.slot; top = top })
-    least_at_left {after} {top} settled k v a b h =
-        let answer : Least K = record { key = least.key; ticket = least.ticket; slot = least.slot; top = top } in
+    pub least_at_left : {after : List (Node K)} {cut : Cut (Entry K)} → (cut.out ≡ least.out) × (cut.slot ≡ least.slot) → Joins 250 balance mid i (with_link Left least.top n) after cut.top → TakesTheLeast nodes i after cut
+    least_at_left {after} {cut} same settled k v a b h =
         let t : Avl K = fork i k v a b in
         let o = opened_root r t h in
         let l = left_least t h in
-        let made = left_settles (root_sides r t h) kept (left_lessens t h) n.key n.ticket settled in
-        of_root r (LeastGoneOf nodes after answer) t h
-        (subst (λ u. LeastGone nodes i n.key n.ticket u o.b after answer) (sym l.is)
+        let made = lost_settles n (root_sides r t h) Left kept (left_lessens t h) settled in
+        of_root r (LeastGoneOf nodes after cut) t h
+        (subst (λ u. LeastGone nodes i n.entry.key n.entry.ticket u o.b after cut) (sym l.is)
         (record {
-          key = l.gone.key;
-          ticket = l.gone.ticket;
-          slot = l.gone.slot;
-          left = subst (λ u. Reshaped nodes after (slots u ++ (i ∷ slots o.b)) top (balance i n.key n.ticket (least_left l) o.b)) l.is made;
+          out = same.0 ∙ l.gone.out;
+          slot = same.1 ∙ l.gone.slot;
+          left = subst (λ u. Reshaped nodes after (slots u ++ (i ∷ slots o.b)) cut.top (balance i n.entry.key n.entry.ticket (least_left l) o.b)) l.is made;
         }))
 
--- a node whose pair goes, with two sides: it gets the least pair of its right side
-module _ {K : Type 0} {nodes : List (Node K)} {right : Link} {m : ℕ} (is : right ≡ Some m) {mid : List (Node K)} (kept : length mid ≡ length nodes) {least : Least K} (below : TakesTheLeast nodes m mid least)
-    {i : ℕ} {left : Link} where
-  right_least : {a b : Avl K} → Siding nodes i left right a b → LeastOut nodes mid m b least
-  right_least {b = b} s = least_out b (right_changing s None tt) is below
+-- a node with another pair, over the same sides
+abbrev with_entry : {K : Type 0} → Node K → Entry K → Node K
+with_entry n e = record { entry = e; left = n.left; right = n.right; height = n.height }
 
-  right_lessens : {a b : Avl K} (s : Siding nodes i left right a b) → Lessened nodes b mid least.top (least_left (right_least s))
+-- a node whose pair goes, with two sides: it gets the least pair of its right side
+module _ {K : Type 0} {nodes : List (Node K)} {i : ℕ} (n : Node K) {m : ℕ} (is : n.right ≡ Some m) {mid : List (Node K)} (kept : length mid ≡ length nodes) {least : Cut (Entry K)} (below : TakesTheLeast nodes m mid least) where
+  right_least : {a b : Avl K} → Siding nodes i n.left n.right a b → LeastOut nodes mid m b least
+  right_least {b = b} s = least_out b (side_can n Right refl s) is below
+
+  right_lessens : {a b : Avl K} (s : Siding nodes i n.left n.right a b) → Lessened nodes b mid least.top (least_left (right_least s))
   right_lessens s = least_lessens s.right_balanced (right_least s)
 
-  pub least_replaces : Sided nodes i left right → Joinable 250 mid i left least.top
-  least_replaces (a, (b, s)) = (a, (least_left (right_least s), right_rejoins s kept (right_lessens s)))
+  pub least_replaces : Sided nodes i n → Joinable 250 mid i (with_link Right least.top (with_entry n least.out))
+  least_replaces (a, (b, s)) = (a, (least_left (right_least s), lost_rejoins (with_entry n least.out) s Right kept (right_lessens s)))
 
-  pub least_joins : {j : ℕ} → left ≡ Some j → {after : List (Node K)} {top : Link} → Joins 250 (balance i least.key least.ticket) mid i left least.top after top →
-      JoinsUp nodes i left right after (record { top = top; slot = least.slot })
+  pub least_joins : {j : ℕ} → n.left ≡ Some j → {after : List (Node K)} {top : Link} → Joins 250 balance mid i (with_link Right least.top (with_entry n least.out)) after top →
+      JoinsUp nodes i n after (record { out = n.entry.ticket; slot = least.slot; top = top })
   least_joins at settled tip b s = absurd (let z : ◌≡◌ {A = ℕ} 0 1 = cc (at, s.joining.left_stands.linked) in omega arith)
   least_joins at {after} {top} settled (fork p k v x y) b s =
       let l = right_least s in
-      let made = right_settles s kept (right_lessens s) least.key least.ticket settled in
-      subst (λ u. JoinedUp nodes i (fork p k v x y) u after (record { top = top; slot = least.slot })) (sym l.is)
+      let made = lost_settles (with_entry n least.out) s Right kept (right_lessens s) settled in
+      subst (λ u. JoinedUp nodes i n.entry.ticket (fork p k v x y) u after (record { out = n.entry.ticket; slot = least.slot; top = top })) (sym l.is)
       (record {
+        out = refl;
         slot = l.gone.slot;
-        left = subst (λ X. X) (λ z. Reshaped nodes after (slots (fork p k v x y) ++ (i ∷ slots (l.is z))) top (balance i (l.gone.key z) (l.gone.ticket z) (fork p k v x y) (least_left l))) made;
+        left = subst (λ X. X) (λ z. Reshaped nodes after (slots (fork p k v x y) ++ (i ∷ slots (l.is z))) top (balance i (l.gone.out z).key (l.gone.out z).ticket (fork p k v x y) (least_left l))) made;
       })
 
 -- a removal of s took a pair out of the tree t
-record Went {K : Type 0} (order : K → K → Ordering) (s : K) (nodes : List (Node K)) (t : Avl K) (after : List (Node K)) (gone : Gone) : Type 0 where
-  found : find order t s ≡ Some gone.ticket
+record Went {K : Type 0} (order : K → K → Ordering) (s : K) (nodes : List (Node K)) (t : Avl K) (after : List (Node K)) (gone : Cut ℕ) : Type 0 where
+  found : find order t s ≡ Some gone.out
   frees : freed order t s ≡ Some gone.slot
   reshaped : Reshaped nodes after (slots t) gone.top (remove order t s)
 
 module _ {K : Type 0} (order : K → K → Ordering) (s : K) {nodes : List (Node K)} where
   -- what it answers tells whether it did
-  went : (t : Avl K) (after : List (Node K)) (answer : Option Gone) (gone : Gone) → ShrunkBy order (find order t s) nodes t s after answer → answer ≡ Some gone → Went order s nodes t after gone
+  went : (t : Avl K) (after : List (Node K)) (answer : Option (Cut ℕ)) (gone : Cut ℕ) → ShrunkBy order (find order t s) nodes t s after answer → answer ≡ Some gone → Went order s nodes t after gone
   went t after answer gone h is = by (find order t s) refl h
     where
       by : (w : Option ℕ) → find order t s ≡ w → ShrunkBy order w nodes t s after answer → Went order s nodes t after gone
@@ -222,7 +208,7 @@ module _ {K : Type 0} (order : K → K → Ordering) (s : K) {nodes : List (Node
           let same : h.0 ≡ gone = cc (h.1.0, is) in
           subst (Went order s nodes t after) same (record { found = e ∙ ap Some (sym h.1.1); frees = h.1.2; reshaped = h.1.3 })
 
-  stayed : (t : Avl K) (after : List (Node K)) (answer : Option Gone) → ShrunkBy order (find order t s) nodes t s after answer → answer ≡ None → (find order t s ≡ None) × (after ≡ nodes)
+  stayed : (t : Avl K) (after : List (Node K)) (answer : Option (Cut ℕ)) → ShrunkBy order (find order t s) nodes t s after answer → answer ≡ None → (find order t s ≡ None) × (after ≡ nodes)
   stayed t after answer h is = by (find order t s) h
     where
       by : (w : Option ℕ) → ShrunkBy order w nodes t s after answer → (w ≡ None) × (after ≡ nodes)
@@ -230,108 +216,88 @@ module _ {K : Type 0} (order : K → K → Ordering) (s : K) {nodes : List (Node
       by (Some held) h = absurd (let z : ◌≡◌ {A = ℕ} 0 1 = cc (h.1.0, is) in omega arith)
 
   -- and the other way round
-  removed : (t : Avl K) (after : List (Node K)) (gone : Gone) (comparisons : ℕ) → comparisons ≡ path false order t s → Went order s nodes t after gone → Removed order nodes t s after (record { gone = Some gone; comparisons = comparisons })
+  removed : (t : Avl K) (after : List (Node K)) (gone : Cut ℕ) (comparisons : ℕ) → comparisons ≡ path false order t s → Went order s nodes t after gone → Removed order nodes t s after (record { answer = Some gone; comparisons = comparisons })
   removed t after gone comparisons count w =
       record { comparisons = count; outcome = subst (λ r. ShrunkBy order r nodes t s after (Some gone)) (sym w.found) (gone, (refl, refl, w.frees, w.reshaped)) }
 
 -- from t the way of s goes down to a side, which is u
-pub record Way {K : Type 0} (order : K → K → Ordering) (s : K) (nodes : List (Node K)) (side : Link) (t : Avl K) : Type 0 where
-  pub u : Avl K
-  pub changing : Changing nodes side None u
-  pub paths : path false order t s ≡ suc (path false order u s)
-  pub finds : find order t s ≡ find order u s
-  pub frees : freed order t s ≡ freed order u s
+record Way {K : Type 0} (order : K → K → Ordering) (s : K) (nodes : List (Node K)) (from : Link) (t : Avl K) : Type 0 where
+  u : Avl K
+  changing : Changing nodes from None u
+  paths : path false order t s ≡ suc (path false order u s)
+  finds : find order t s ≡ find order u s
+  frees : freed order t s ≡ freed order u s
 
-module _ {K : Type 0} {order : K → K → Ordering} {s : K} {nodes : List (Node K)} where
-  -- what a removal from that side answers, of any tree that stands here
-  module _ {at side : Link} (way : (t : Avl K) → Changing nodes at None t → Way order s nodes side t) {mid : List (Node K)} (below : Removal) (done : Removes order nodes side s mid below) where
-    pub side_few : Changeable nodes at None → below.comparisons ≤ 100
-    side_few (t, h) = let w = way t h in let low = path_low false order s w.u in omega (arith, (done w.u w.changing).comparisons, w.changing.placed.low)
+module _ {K : Type 0} {order : K → K → Ordering} {s : K} {nodes : List (Node K)} {at : Link} {i : ℕ} {n : Node K} (r : Root nodes at i n) where
+  -- it goes to the side that the key is on: what a removal there answers, of any tree that stands here
+  module _ (side : Side) {from : Link} (from_is : from ≡ link_on side n) where
+    module _ {mid : List (Node K)} {below : Counted (Option (Cut ℕ))} (done : Removes order nodes from s mid below) where
+      pub side_few : Changeable nodes at None → below.comparisons ≤ 100
+      side_few (t, h) =
+          let c = side_can n side from_is (root_sides r t h) in
+          let u = on side (opened_root r t h).a (opened_root r t h).b in
+          omega (arith, path_low false order s u, (done u c).comparisons, c.placed.low)
 
-    pub stays_on : below.gone ≡ None → Removes order nodes at s mid (record { gone = None; comparisons = below.comparisons + 1 })
-    stays_on none t h =
-        let w = way t h in
-        let r = done w.u w.changing in
-        let e = stayed order s w.u mid below.gone r.outcome none in
-        record { comparisons = omega (arith, r.comparisons, w.paths); outcome = subst (λ x. ShrunkBy order x nodes t s mid None) (sym (w.finds ∙ e.0)) (refl, e.1) }
-
-    module _ {gone : Gone} (some : below.gone ≡ Some gone) where
-      side_went : (t : Avl K) (h : Changing nodes at None t) → Went order s nodes (way t h).u mid gone
-      side_went t h = went order s (way t h).u mid below.gone gone (done (way t h).u (way t h).changing).outcome some
-
-      side_lessens : (t : Avl K) (h : Changing nodes at None t) → Lessened nodes (way t h).u mid gone.top (remove order (way t h).u s)
-      side_lessens t h =
-          let w = side_went t h in
-          record { slot = gone.slot; one_more = remove_slots order s (way t h).u gone.slot w.frees; reshaped = w.reshaped; no_higher = (remove_balanced order (way t h).u s (way t h).changing.balanced).high }
-
-      goes_on : {after : List (Node K)} {top : Link} → ((t : Avl K) → Changing nodes at None t → Reshaped nodes after (slots t) top (remove order t s)) →
-          Removes order nodes at s after (record { gone = Some (record { ticket = gone.ticket; slot = gone.slot; top = top }); comparisons = below.comparisons + 1 })
-      goes_on {after} {top} made t h =
-          let w = way t h in
-          removed order s t after (record { ticket = gone.ticket; slot = gone.slot; top = top }) (below.comparisons + 1) (omega (arith, (done w.u w.changing).comparisons, w.paths))
-          (record { found = w.finds ∙ (side_went t h).found; frees = w.frees ∙ (side_went t h).frees; reshaped = made t h })
-
-  -- by one comparison at the root that was read
-  module _ {at : Link} {i : ℕ} {n : Node K} (r : Root nodes at i n) where
-    abbrev pub left_way : Less ≡ order s n.key → (t : Avl K) → Changing nodes at None t → Way order s nodes n.left t
-    left_way less t h =
-        let o = opened_root r t h in
-        record {
-          u = o.a;
-          changing = left_changing (root_sides r t h) None tt;
-          paths = of_root r (λ x. path false order x s ≡ suc (path false order o.a s)) t h (ap suc (picks _ _ _ less));
-          finds = of_root r (λ x. find order x s ≡ find order o.a s) t h (picks _ _ _ less);
-          frees = of_root r (λ x. freed order x s ≡ freed order o.a s) t h (picks _ _ _ less);
-        }
-
-    abbrev pub right_way : Greater ≡ order s n.key → (t : Avl K) → Changing nodes at None t → Way order s nodes n.right t
-    right_way greater t h =
-        let o = opened_root r t h in
-        record {
-          u = o.b;
-          changing = right_changing (root_sides r t h) None tt;
-          paths = of_root r (λ x. path false order x s ≡ suc (path false order o.b s)) t h (ap suc (picks _ _ _ greater));
-          finds = of_root r (λ x. find order x s ≡ find order o.b s) t h (picks _ _ _ greater);
-          frees = of_root r (λ x. freed order x s ≡ freed order o.b s) t h (picks _ _ _ greater);
-        }
-
-    -- a pair went from a side, and the root is put over that side again
-    module _ {mid : List (Node K)} (kept : length mid ≡ length nodes) (below : Removal) {gone : Gone} (some : below.gone ≡ Some gone) where
-      module _ (less : Less ≡ order s n.key) (done : Removes order nodes n.left s mid below) where
-        pub left_removal_rejoins : Changeable nodes at None → Joinable 250 mid i gone.top n.right
-        left_removal_rejoins (t, h) =
+      module _ (here : side_of (order s n.entry.key) ≡ Some side) where
+        abbrev way : (t : Avl K) → Changing nodes at None t → Way order s nodes from t
+        way t h =
             let o = opened_root r t h in
-            (remove order o.a s, (o.b, left_rejoins (root_sides r t h) kept (side_lessens (left_way less) below done some t h)))
+            record {
+              u = on side o.a o.b;
+              changing = side_can n side from_is (root_sides r t h);
+              paths = ap (λ x. path false order x s) o.is ∙ ap suc (by_side (order s n.entry.key) side (λ d. path false order (on d o.a o.b) s) 0 here);
+              finds = ap (λ x. find order x s) o.is ∙ by_side (order s n.entry.key) side (λ d. find order (on d o.a o.b) s) (Some n.entry.ticket) here;
+              frees = ap (λ x. freed order x s) o.is ∙ by_side (order s n.entry.key) side (λ d. freed order (on d o.a o.b) s) _ here;
+            }
 
-        pub left_removal_settles : {after : List (Node K)} {top : Link} → Joins 250 (balance i n.key n.ticket) mid i gone.top n.right after top →
-            Removes order nodes at s after (record { gone = Some (record { ticket = gone.ticket; slot = gone.slot; top = top }); comparisons = below.comparisons + 1 })
-        left_removal_settles {after} {top} settled =
-            goes_on (left_way less) below done some (λ t h.
-            let o = opened_root r t h in
-            of_root r (λ x. Reshaped nodes after (slots x) top (remove order x s)) t h (subst (Reshaped nodes after (slots o.a ++ (i ∷ slots o.b)) top) (sym (picks _ _ _ less))
-            (left_settles (root_sides r t h) kept (side_lessens (left_way less) below done some t h) n.key n.ticket settled)))
+        pub stays_on : below.answer ≡ None → Removes order nodes at s mid (record { answer = None; comparisons = below.comparisons + 1 })
+        stays_on none t h =
+            let w = way t h in
+            let r = done w.u w.changing in
+            let e = stayed order s w.u mid below.answer r.outcome none in
+            record { comparisons = omega (arith, r.comparisons, w.paths); outcome = subst (λ x. ShrunkBy order x nodes t s mid None) (sym (w.finds ∙ e.0)) (refl, e.1) }
 
-      module _ (greater : Greater ≡ order s n.key) (done : Removes order nodes n.right s mid below) where
-        pub right_removal_rejoins : Changeable nodes at None → Joinable 250 mid i n.left gone.top
-        right_removal_rejoins (t, h) =
-            let o = opened_root r t h in
-            (o.a, (remove order o.b s, right_rejoins (root_sides r t h) kept (side_lessens (right_way greater) below done some t h)))
+        -- a pair went from the side, and the root is put over it again
+        module _ (kept : length mid ≡ length nodes) {cut : Cut ℕ} (some : below.answer ≡ Some cut) where
+          side_went : (t : Avl K) (h : Changing nodes at None t) → Went order s nodes (way t h).u mid cut
+          side_went t h = went order s (way t h).u mid below.answer cut (done (way t h).u (way t h).changing).outcome some
 
-        pub right_removal_settles : {after : List (Node K)} {top : Link} → Joins 250 (balance i n.key n.ticket) mid i n.left gone.top after top →
-            Removes order nodes at s after (record { gone = Some (record { ticket = gone.ticket; slot = gone.slot; top = top }); comparisons = below.comparisons + 1 })
-        right_removal_settles {after} {top} settled =
-            goes_on (right_way greater) below done some (λ t h.
-            let o = opened_root r t h in
-            of_root r (λ x. Reshaped nodes after (slots x) top (remove order x s)) t h (subst (Reshaped nodes after (slots o.a ++ (i ∷ slots o.b)) top) (sym (picks _ _ _ greater))
-            (right_settles (root_sides r t h) kept (side_lessens (right_way greater) below done some t h) n.key n.ticket settled)))
+          side_lessens : (t : Avl K) (h : Changing nodes at None t) → Lessened nodes (way t h).u mid cut.top (remove order (way t h).u s)
+          side_lessens t h =
+              let w = side_went t h in
+              record { slot = cut.slot; one_more = remove_slots order s (way t h).u cut.slot w.frees; reshaped = w.reshaped; no_higher = (remove_balanced order (way t h).u s (way t h).changing.balanced).high }
 
-    -- the root's pair goes
-    pub root_goes : Equal ≡ order s n.key → {after : List (Node K)} {joint : Joint} → JoinsUp nodes i n.left n.right after joint →
-        Removes order nodes at s after (record { gone = Some (record { ticket = n.ticket; slot = joint.slot; top = joint.top }); comparisons = 1 })
-    root_goes equal {after} {joint} joins t h =
-        let gone : Gone = record { ticket = n.ticket; slot = joint.slot; top = joint.top } in
-        let o = opened_root r t h in
-        let j = joins o.a o.b (root_sides r t h) in
-        of_root r (λ x. Removed order nodes x s after (record { gone = Some gone; comparisons = 1 })) t h
-        (removed order s (fork i n.key n.ticket o.a o.b) after gone 1 (sym (ap suc (picks _ _ _ equal)))
-        (record { found = picks _ _ _ equal; frees = picks _ _ _ equal ∙ ap Some (sym j.slot); reshaped = subst (Reshaped nodes after (slots o.a ++ (i ∷ slots o.b)) joint.top) (sym (picks _ _ _ equal)) j.left }))
+          pub removal_rejoins : Changeable nodes at None → Joinable 250 mid i (with_link side cut.top n)
+          removal_rejoins (t, h) = (_, (_, lost_rejoins n (root_sides r t h) side kept (side_lessens t h)))
+
+          pub removal_settles : {after : List (Node K)} {closed : Cut ℕ} → (closed.out ≡ cut.out) × (closed.slot ≡ cut.slot) → Joins 250 balance mid i (with_link side cut.top n) after closed.top →
+              Removes order nodes at s after (record { answer = Some closed; comparisons = below.comparisons + 1 })
+          removal_settles {after} {closed} same settled t h =
+              let o = opened_root r t h in
+              let w = way t h in
+              let gone = side_went t h in
+              let whole : Avl K = balance i n.entry.key n.entry.ticket (on side (remove order w.u s) o.a) (on side o.b (remove order w.u s)) in
+              let is : remove order t s ≡ whole =
+              ap (λ x. remove order x s) o.is
+              ∙ by_side (order s n.entry.key) side (λ d. balance i n.entry.key n.entry.ticket (on d (remove order (on d o.a o.b) s) o.a) (on d o.b (remove order (on d o.a o.b) s))) _ here in
+              removed order s t after closed (below.comparisons + 1) (omega (arith, (done w.u w.changing).comparisons, w.paths))
+              (record {
+                found = w.finds ∙ gone.found ∙ ap Some (sym same.0);
+                frees = w.frees ∙ gone.frees ∙ ap Some (sym same.1);
+                reshaped = subst (Reshaped nodes after (slots t) closed.top) (sym is)
+                    (subst (λ l. Reshaped nodes after l closed.top whole) (sym (ap slots o.is)) (lost_settles n (root_sides r t h) side kept (side_lessens t h) settled));
+              })
+
+  -- the root's pair goes
+  pub root_goes : side_of (order s n.entry.key) ≡ None → {after : List (Node K)} {cut : Cut ℕ} → JoinsUp nodes i n after cut → Removes order nodes at s after (record { answer = Some cut; comparisons = 1 })
+  root_goes here {after} {cut} joins t h =
+      let equal = same_key (order s n.entry.key) here in
+      let o = opened_root r t h in
+      let j = joins o.a o.b (root_sides r t h) in
+      of_root r (λ x. Removed order nodes x s after (record { answer = Some cut; comparisons = 1 })) t h
+      (removed order s (fork i n.entry.key n.entry.ticket o.a o.b) after cut 1 (sym (ap suc (picks _ _ _ equal)))
+      (record {
+        found = picks _ _ _ equal ∙ ap Some (sym j.out);
+        frees = picks _ _ _ equal ∙ ap Some (sym j.slot);
+        reshaped = subst (Reshaped nodes after (slots o.a ++ (i ∷ slots o.b)) cut.top) (sym (picks _ _ _ equal)) j.left;
+      }))

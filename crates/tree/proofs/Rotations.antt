@@ -1,7 +1,6 @@
 -- Nodes written over their sides, and rotations: what each step asks, and what it leaves.
-use Rattle.std.proofs.Common.{◌≡◌, ℕ, suc, ◌+◌, ◌<◌, ◌≤◌, max, List, ◌∷◌, ◌++◌, length, get_or, set, Some, sym, refl, ap, ◌∙◌, subst, arith, None}
+use Rattle.std.proofs.Common.{◌≡◌, ℕ, suc, ◌+◌, ◌<◌, ◌≤◌, max, List, ◌∷◌, ◌++◌, length, get_or, set, Some, sym, refl, ap, ◌∙◌, subst, arith}
 use Rattle.std.specs.List.{slice_get, AllByRecursion}
-use Rattle.std.proofs.lemmas.Option.{slice_get_read}
 use Rattle.digits.proofs.Every.{all_weaker, all_left, all_right}
 use Rattle.avl.specs.Avl.{Avl, fork, height, slots, turn_right, turn_left}
 use Rattle.avl.specs.Model.{Apart, Distinct}
@@ -9,38 +8,40 @@ use Rattle.avl.proofs.Inorder.{turn_right_inorder, turn_left_inorder}
 use Rattle.avl.proofs.Slots.{Sides, sides}
 use Rattle.tree.specs.Links.{Link}
 use Rattle.tree.specs.declared.nodes.Node.{Node}
-use Rattle.tree.specs.Shaping.{Joining, Joinable, Joins}
-use Rattle.tree.specs.Standing.{node_of, Stands, told_height, height_at, Reaches, Reshaped}
-use Rattle.tree.proofs.Standing.{Opened, reads, absent, leads_inside, nth_set_same, nth_set_other, told_truly, stands_still, stands_apart}
+use Rattle.tree.specs.declared.nodes.Side.{Side}
+use Rattle.tree.specs.declared.nodes.Side.TheVariants.{Left, Right}
+use Rattle.tree.specs.Shaping.{Joining, Joinable, Joins, turn}
+use Rattle.tree.specs.Sides.{other, on, link_on, with_link}
+use Rattle.tree.specs.Standing.{node_of, Stands, height_at, Reshaped}
+use Rattle.tree.proofs.Standing.{Opened, reads, leads_inside, nth_set_same, nth_set_other, told_truly, stands_still, stands_apart}
 
--- what an element that the code has read tells of the height at its link
-pub told_by_read : {K : Type 0} (nodes : List (Node K)) (at : Link) (i : ℕ) (n : Node K) → Reaches nodes at → at ≡ Some i → n ≡ get_or nodes i n → (get_or nodes i n).height ≡ height_at nodes at
-told_by_read {K} nodes at i n r is read =
-    let h : i < length nodes = subst (Reaches nodes) is r in
-    ap (λ (m : Node K). m.height) (sym read) ∙ sym (ap (height_at nodes) is ∙ ap told_height (slice_get_read nodes (length nodes) i n refl h read))
+-- the tree on a side stands at the link to it
+pub side_stands : {K : Type 0} {limit : ℕ} {nodes : List (Node K)} {i : ℕ} (n : Node K) {a b : Avl K} (side : Side) → Joining limit nodes i n.left n.right a b → Stands nodes (link_on side n) (on side a b)
+side_stands n Left j = j.left_stands
+side_stands n Right j = j.right_stands
 
--- a node written over two sides
-module _ {K : Type 0} {limit : ℕ} {nodes : List (Node K)} {i : ℕ} {left right : Link} {a b : Avl K} (j : Joining limit nodes i left right a b) where
-  pub joined_height : max (height_at nodes left) (height_at nodes right) ≡ max (height a) (height b)
-  joined_height = let x = told_truly nodes left a j.left_stands in let y = told_truly nodes right b j.right_stands in cc
+-- a node put over its two sides
+module _ {K : Type 0} {limit : ℕ} {nodes : List (Node K)} {i : ℕ} (n : Node K) {a b : Avl K} (j : Joining limit nodes i n.left n.right a b) where
+  pub joined_height : max (height_at nodes n.left) (height_at nodes n.right) ≡ max (height a) (height b)
+  joined_height = let x = told_truly nodes n.left a j.left_stands in let y = told_truly nodes n.right b j.right_stands in cc
 
-  pub forks : (k : K) (v h : ℕ) → h ≡ max (height_at nodes left) (height_at nodes right) →
-      Reshaped nodes (set nodes i (record { key = k; ticket = v; left = left; right = right; height = h + 1 })) (slots a ++ (i ∷ slots b)) (Some i) (fork i k v a b)
-  forks k v h is =
-      let n : Node K = record { key = k; ticket = v; left = left; right = right; height = h + 1 } in
-      let after : List (Node K) = set nodes i n in
+  pub forks : (h : ℕ) → h ≡ max (height_at nodes n.left) (height_at nodes n.right) →
+      Reshaped nodes (set nodes i (record { entry = n.entry; left = n.left; right = n.right; height = h + 1 })) (slots a ++ (i ∷ slots b)) (Some i) (fork i n.entry.key n.entry.ticket a b)
+  forks h is =
+      let put : Node K = record { entry = n.entry; left = n.left; right = n.right; height = h + 1 } in
+      let after : List (Node K) = set nodes i put in
       let same : ℕ → Type 0 = λ m. slice_get after m ≡ slice_get nodes m in
-      let s = sides i k v a b j.distinct in
+      let s = sides i n.entry.key n.entry.ticket a b j.distinct in
       let top : h + 1 ≡ suc (max (height a) (height b)) = let e = joined_height in omega arith in
-      let made : n ≡ node_of k v a b = λ p. record { key = k; ticket = v; left = j.left_stands.linked p; right = j.right_stands.linked p; height = top p } in
+      let made : put ≡ node_of n.entry.key n.entry.ticket a b = λ p. record { entry = n.entry; left = j.left_stands.linked p; right = j.right_stands.linked p; height = top p } in
       let still : (t : Avl K) (at : Link) → Apart i (slots t) → Stands nodes at t → Stands after at t =
-      λ t at apart. stands_still nodes after at t (all_weaker (λ m. i ≡ m → ⊥) same (λ m ne. nth_set_other nodes i m n (λ e. ne (sym e))) (slots t) apart) in
+      λ t at apart. stands_still nodes after at t (all_weaker (λ m. i ≡ m → ⊥) same (λ m ne. nth_set_other nodes i m put (λ e. ne (sym e))) (slots t) apart) in
       record {
         stands = record {
-          lies = (nth_set_same nodes i n j.within ∙ ap Some made, (still a left s.off_left j.left_stands).lies, (still b right s.off_right j.right_stands).lies);
+          lies = (nth_set_same nodes i put j.within ∙ ap Some made, (still a n.left s.off_left j.left_stands).lies, (still b n.right s.off_right j.right_stands).lies);
           linked = refl;
         };
-        frame = λ m apart. nth_set_other nodes i m n (all_right (λ x. m ≡ x → ⊥) (slots a) (i ∷ slots b) apart).0;
+        frame = λ m apart. nth_set_other nodes i m put (all_right (λ x. m ≡ x → ⊥) (slots a) (i ∷ slots b) apart).0;
       }
 
 -- one step after another: together they change what either changes
@@ -63,96 +64,109 @@ pub joins_within : {K : Type 0} (limit more : ℕ) {nodes : List (Node K)} {i : 
 joins_within limit more le g =
     record { left_stands = g.left_stands; right_stands = g.right_stands; distinct = g.distinct; within = g.within; left_low = omega (arith, g.left_low); right_low = omega (arith, g.right_low) }
 
--- where the side that would be turned up is absent, the node is only written
-module _ {K : Type 0} {nodes : List (Node K)} {i : ℕ} {k : K} {v : ℕ} {left right : Link} {after : List (Node K)} {top : Link} (one : Joins 254 (fork i k v) nodes i left right after top)
-    {a b : Avl K} (g : Joining 253 nodes i left right a b) where
-  written : Reshaped nodes after (slots a ++ (i ∷ slots b)) top (fork i k v a b)
-  written = one a b (joins_within 253 254 (omega arith) g)
-
-  pub nothing_turns_right : left ≡ None → Reshaped nodes after (slots a ++ (i ∷ slots b)) top (turn_right i k v a b)
-  nothing_turns_right is =
-      let e = absent nodes left a g.left_stands is in
-      subst (Reshaped nodes after (slots a ++ (i ∷ slots b)) top) (ap (λ t. fork i k v t b) e ∙ sym (ap (λ t. turn_right i k v t b) e)) written
-
-  pub nothing_turns_left : right ≡ None → Reshaped nodes after (slots a ++ (i ∷ slots b)) top (turn_left i k v a b)
-  nothing_turns_left is =
-      let e = absent nodes right b g.right_stands is in
-      subst (Reshaped nodes after (slots a ++ (i ∷ slots b)) top) (ap (λ t. fork i k v a t) e ∙ sym (ap (λ t. turn_left i k v a t) e)) written
-
 -- a left side turned up: first the node over its inner part and the right side, then its root over its outer part and that node
-module _ {K : Type 0} {nodes : List (Node K)} {i : ℕ} (k : K) (v : ℕ) {left right : Link} {j : ℕ} {n : Node K} (is : left ≡ Some j) (read : n ≡ get_or nodes j n)
-    {a b : Avl K} (g : Joining 253 nodes i left right a b) where
-  opened_left : Opened nodes j n a
-  opened_left = reads nodes left j n a g.left_stands is read
+module _ {K : Type 0} {nodes : List (Node K)} {i : ℕ} (n : Node K) {j : ℕ} {root : Node K} (is : n.left ≡ Some j) (read : root ≡ get_or nodes j root)
+    {a b : Avl K} (g : Joining 253 nodes i n.left n.right a b) where
+  opened_left : Opened nodes j root a
+  opened_left = reads nodes n.left j root a g.left_stands is read
 
-  turn_right_is : turn_right i k v a b ≡ fork j n.key n.ticket opened_left.a (fork i k v opened_left.b b)
-  turn_right_is = ap (λ t. turn_right i k v t b) opened_left.is
+  turn_right_is : turn_right i n.entry.key n.entry.ticket a b ≡ fork j root.entry.key root.entry.ticket opened_left.a (fork i n.entry.key n.entry.ticket opened_left.b b)
+  turn_right_is = ap (λ t. turn_right i n.entry.key n.entry.ticket t b) opened_left.is
 
   turned_slots_right : slots a ++ (i ∷ slots b) ≡ slots opened_left.a ++ (j ∷ (slots opened_left.b ++ (i ∷ slots b)))
-  turned_slots_right = sym (turn_right_inorder (λ i k v. i) i k v a b) ∙ ap slots turn_right_is
+  turned_slots_right = sym (turn_right_inorder (λ i k v. i) i n.entry.key n.entry.ticket a b) ∙ ap slots turn_right_is
 
-  turned_sides_right : Sides j opened_left.a (fork i k v opened_left.b b)
-  turned_sides_right = sides j n.key n.ticket opened_left.a (fork i k v opened_left.b b) (subst Distinct turned_slots_right g.distinct)
+  turned_sides_right : Sides j opened_left.a (fork i n.entry.key n.entry.ticket opened_left.b b)
+  turned_sides_right = sides j root.entry.key root.entry.ticket opened_left.a (fork i n.entry.key n.entry.ticket opened_left.b b) (subst Distinct turned_slots_right g.distinct)
 
-  right_inner : Joining 254 nodes i n.right right opened_left.b b
+  right_inner : Joining 254 nodes i root.right n.right opened_left.b b
   right_inner =
       let h = ap height opened_left.is in
       record { left_stands = opened_left.right; right_stands = g.right_stands; distinct = turned_sides_right.right; within = g.within; left_low = omega (arith, g.left_low); right_low = omega (arith, g.right_low) }
 
-  pub turns_right_inner : Joinable 254 nodes i n.right right
+  turns_right_inner : Joinable 254 nodes i (with_link Left root.right n)
   turns_right_inner = (opened_left.b, (b, right_inner))
 
-  module _ {mid : List (Node K)} {inner : Link} (kept : length mid ≡ length nodes) (one : Joins 254 (fork i k v) nodes i n.right right mid inner) where
-    right_outer : Joining 254 mid j n.left inner opened_left.a (fork i k v opened_left.b b)
+  module _ {mid : List (Node K)} {inner : Link} (kept : length mid ≡ length nodes) (one : Joins 254 fork nodes i (with_link Left root.right n) mid inner) where
+    right_outer : Joining 254 mid j root.left inner opened_left.a (fork i n.entry.key n.entry.ticket opened_left.b b)
     right_outer =
         let h = ap height opened_left.is in
-        joins_right 254 nodes mid j _ inner n.left (fork i k v opened_left.b b) opened_left.a (one opened_left.b b right_inner) opened_left.left turned_sides_right.left_right
-        kept (leads_inside nodes left j a g.left_stands is) (omega (arith, g.left_low, g.right_low)) (omega (arith, g.left_low)) (subst Distinct turned_slots_right g.distinct)
+        joins_right 254 nodes mid j _ inner root.left (fork i n.entry.key n.entry.ticket opened_left.b b) opened_left.a (one opened_left.b b right_inner) opened_left.left turned_sides_right.left_right
+        kept (leads_inside nodes n.left j a g.left_stands is) (omega (arith, g.left_low, g.right_low)) (omega (arith, g.left_low)) (subst Distinct turned_slots_right g.distinct)
 
-    pub turns_right_outer : Joinable 254 mid j n.left inner
-    turns_right_outer = (opened_left.a, (fork i k v opened_left.b b, right_outer))
+    turns_right_outer : Joinable 254 mid j (with_link Right inner root)
+    turns_right_outer = (opened_left.a, (fork i n.entry.key n.entry.ticket opened_left.b b, right_outer))
 
-    pub turns_right : {after : List (Node K)} {top : Link} → Joins 254 (fork j n.key n.ticket) mid j n.left inner after top → Reshaped nodes after (slots a ++ (i ∷ slots b)) top (turn_right i k v a b)
+    turns_right : {after : List (Node K)} {top : Link} → Joins 254 fork mid j (with_link Right inner root) after top → Reshaped nodes after (slots a ++ (i ∷ slots b)) top (turn_right i n.entry.key n.entry.ticket a b)
     turns_right {after} {top} two =
         subst (Reshaped nodes after (slots a ++ (i ∷ slots b)) top) (sym turn_right_is)
         (both_steps nodes mid after _ _ (slots a ++ (i ∷ slots b)) inner top _ _ (one opened_left.b b right_inner) (two _ _ right_outer)
         (λ m apart. let all = subst (Apart m) turned_slots_right apart in ((all_right (λ x. m ≡ x → ⊥) (slots opened_left.a) (j ∷ _) all).1, all)))
 
 -- a right side turned up: first the node over the left side and its inner part, then its root over that node and its outer part
-module _ {K : Type 0} {nodes : List (Node K)} {i : ℕ} (k : K) (v : ℕ) {left right : Link} {j : ℕ} {n : Node K} (is : right ≡ Some j) (read : n ≡ get_or nodes j n)
-    {a b : Avl K} (g : Joining 253 nodes i left right a b) where
-  opened_right : Opened nodes j n b
-  opened_right = reads nodes right j n b g.right_stands is read
+module _ {K : Type 0} {nodes : List (Node K)} {i : ℕ} (n : Node K) {j : ℕ} {root : Node K} (is : n.right ≡ Some j) (read : root ≡ get_or nodes j root)
+    {a b : Avl K} (g : Joining 253 nodes i n.left n.right a b) where
+  opened_right : Opened nodes j root b
+  opened_right = reads nodes n.right j root b g.right_stands is read
 
-  turn_left_is : turn_left i k v a b ≡ fork j n.key n.ticket (fork i k v a opened_right.a) opened_right.b
-  turn_left_is = ap (λ t. turn_left i k v a t) opened_right.is
+  turn_left_is : turn_left i n.entry.key n.entry.ticket a b ≡ fork j root.entry.key root.entry.ticket (fork i n.entry.key n.entry.ticket a opened_right.a) opened_right.b
+  turn_left_is = ap (λ t. turn_left i n.entry.key n.entry.ticket a t) opened_right.is
 
   turned_slots_left : slots a ++ (i ∷ slots b) ≡ (slots a ++ (i ∷ slots opened_right.a)) ++ (j ∷ slots opened_right.b)
-  turned_slots_left = sym (turn_left_inorder (λ i k v. i) i k v a b) ∙ ap slots turn_left_is
+  turned_slots_left = sym (turn_left_inorder (λ i k v. i) i n.entry.key n.entry.ticket a b) ∙ ap slots turn_left_is
 
-  turned_sides_left : Sides j (fork i k v a opened_right.a) opened_right.b
-  turned_sides_left = sides j n.key n.ticket (fork i k v a opened_right.a) opened_right.b (subst Distinct turned_slots_left g.distinct)
+  turned_sides_left : Sides j (fork i n.entry.key n.entry.ticket a opened_right.a) opened_right.b
+  turned_sides_left = sides j root.entry.key root.entry.ticket (fork i n.entry.key n.entry.ticket a opened_right.a) opened_right.b (subst Distinct turned_slots_left g.distinct)
 
-  left_inner : Joining 254 nodes i left n.left a opened_right.a
+  left_inner : Joining 254 nodes i n.left root.left a opened_right.a
   left_inner =
       let h = ap height opened_right.is in
       record { left_stands = g.left_stands; right_stands = opened_right.left; distinct = turned_sides_left.left; within = g.within; left_low = omega (arith, g.left_low); right_low = omega (arith, g.right_low) }
 
-  pub turns_left_inner : Joinable 254 nodes i left n.left
+  turns_left_inner : Joinable 254 nodes i (with_link Right root.left n)
   turns_left_inner = (a, (opened_right.a, left_inner))
 
-  module _ {mid : List (Node K)} {inner : Link} (kept : length mid ≡ length nodes) (one : Joins 254 (fork i k v) nodes i left n.left mid inner) where
-    left_outer : Joining 254 mid j inner n.right (fork i k v a opened_right.a) opened_right.b
+  module _ {mid : List (Node K)} {inner : Link} (kept : length mid ≡ length nodes) (one : Joins 254 fork nodes i (with_link Right root.left n) mid inner) where
+    left_outer : Joining 254 mid j inner root.right (fork i n.entry.key n.entry.ticket a opened_right.a) opened_right.b
     left_outer =
         let h = ap height opened_right.is in
-        joins_left 254 nodes mid j _ inner n.right (fork i k v a opened_right.a) opened_right.b (one a opened_right.a left_inner) opened_right.right turned_sides_left.right_left
-        kept (leads_inside nodes right j b g.right_stands is) (omega (arith, g.left_low, g.right_low)) (omega (arith, g.right_low)) (subst Distinct turned_slots_left g.distinct)
+        joins_left 254 nodes mid j _ inner root.right (fork i n.entry.key n.entry.ticket a opened_right.a) opened_right.b (one a opened_right.a left_inner) opened_right.right turned_sides_left.right_left
+        kept (leads_inside nodes n.right j b g.right_stands is) (omega (arith, g.left_low, g.right_low)) (omega (arith, g.right_low)) (subst Distinct turned_slots_left g.distinct)
 
-    pub turns_left_outer : Joinable 254 mid j inner n.right
-    turns_left_outer = (fork i k v a opened_right.a, (opened_right.b, left_outer))
+    turns_left_outer : Joinable 254 mid j (with_link Left inner root)
+    turns_left_outer = (fork i n.entry.key n.entry.ticket a opened_right.a, (opened_right.b, left_outer))
 
-    pub turns_left : {after : List (Node K)} {top : Link} → Joins 254 (fork j n.key n.ticket) mid j inner n.right after top → Reshaped nodes after (slots a ++ (i ∷ slots b)) top (turn_left i k v a b)
+    turns_left : {after : List (Node K)} {top : Link} → Joins 254 fork mid j (with_link Left inner root) after top → Reshaped nodes after (slots a ++ (i ∷ slots b)) top (turn_left i n.entry.key n.entry.ticket a b)
     turns_left {after} {top} two =
         subst (Reshaped nodes after (slots a ++ (i ∷ slots b)) top) (sym turn_left_is)
         (both_steps nodes mid after _ _ (slots a ++ (i ∷ slots b)) inner top _ _ (one a opened_right.a left_inner) (two _ _ left_outer)
         (λ m apart. let all = subst (Apart m) turned_slots_left apart in (all_left (λ x. m ≡ x → ⊥) (slots a ++ (i ∷ slots opened_right.a)) (j ∷ slots opened_right.b) all, all)))
+
+-- a side turned up: first the node over its inner part and the other side, then its root over its outer part and that node
+module _ {K : Type 0} {nodes : List (Node K)} {i : ℕ} (n : Node K) {j : ℕ} {root : Node K} (side : Side) (is : link_on side n ≡ Some j) (read : root ≡ get_or nodes j root)
+    {lower : Node K} (lower_is : lower ≡ with_link side (link_on (other side) root) n) where
+  pub turns_inner : Joinable 253 nodes i n → Joinable 254 nodes i lower
+  turns_inner (a, (b, g)) = subst (Joinable 254 nodes i) (sym lower_is) (by side is)
+    where
+      by : (side : Side) → link_on side n ≡ Some j → Joinable 254 nodes i (with_link side (link_on (other side) root) n)
+      by Left is = turns_right_inner n is read g
+      by Right is = turns_left_inner n is read g
+
+  module _ {mid : List (Node K)} {inner : Link} (kept : length mid ≡ length nodes) (one : Joins 254 fork nodes i lower mid inner) {upper : Node K} (upper_is : upper ≡ with_link (other side) inner root) where
+    put_inner : Joins 254 fork nodes i (with_link side (link_on (other side) root) n) mid inner
+    put_inner = subst (λ m. Joins 254 fork nodes i m mid inner) lower_is one
+
+    pub turns_outer : Joinable 253 nodes i n → Joinable 254 mid j upper
+    turns_outer (a, (b, g)) = subst (Joinable 254 mid j) (sym upper_is) (by side is put_inner)
+      where
+        by : (side : Side) → link_on side n ≡ Some j → Joins 254 fork nodes i (with_link side (link_on (other side) root) n) mid inner → Joinable 254 mid j (with_link (other side) inner root)
+        by Left is one = turns_right_outer n is read g kept one
+        by Right is one = turns_left_outer n is read g kept one
+
+    pub turns : {after : List (Node K)} {top : Link} → Joins 254 fork mid j upper after top → Joins 253 (turn side) nodes i n after top
+    turns {after} {top} two a b g = by side is put_inner (subst (λ m. Joins 254 fork mid j m after top) upper_is two)
+      where
+        by : (side : Side) → link_on side n ≡ Some j → Joins 254 fork nodes i (with_link side (link_on (other side) root) n) mid inner → Joins 254 fork mid j (with_link (other side) inner root) after top →
+            Reshaped nodes after (slots a ++ (i ∷ slots b)) top (turn side i n.entry.key n.entry.ticket a b)
+        by Left is one two = turns_right n is read g kept one two
+        by Right is one two = turns_left n is read g kept one two

@@ -23,7 +23,7 @@ chain_shows nodes at (i ∷ free) c = c.0
 
 -- what a node shows
 abbrev pub shown : {K : Type 0} → Node K → Shape
-shown n = record { left = n.left; right = n.right; height = n.height; ticket = n.ticket }
+shown n = record { left = n.left; right = n.right; height = n.height; ticket = n.entry.ticket }
 
 node_shown : {K : Type 0} (k : K) (v : ℕ) (a b : Avl K) → shown (node_of k v a b) ≡ shape_of v a b
 node_shown k v a b = refl

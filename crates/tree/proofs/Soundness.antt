@@ -73,14 +73,14 @@ module _ {K : Type 0} where
     decides_chained (i ∷ free) at = Decides-and _ _ (decides_link at (Some i)) (decides_free free (decides_chained free) (slice_get nodes i))
 
     -- a tree that was read has the keys and tickets of its nodes, so links and heights are all there is to test
-    tells_node : (n : Node K) (a b : Avl K) → tells (Some n) a b ≡ true → n ≡ node_of n.key n.ticket a b
+    tells_node : (n : Node K) (a b : Avl K) → tells (Some n) a b ≡ true → n ≡ node_of n.entry.key n.entry.ticket a b
     tells_node n a b e =
         let p = and_parts _ _ e in
         let q = and_parts _ _ p.1 in
         let left : n.left ≡ link_of a = (decides_link _ _).0 p.0 in
         let right : n.right ≡ link_of b = (decides_link _ _).0 q.0 in
         let high : n.height ≡ suc (max (height a) (height b)) = eqb-true _ _ q.1 in
-        λ i. record { key = n.key; ticket = n.ticket; left = left i; right = right i; height = high i }
+        λ i. record { entry = n.entry; left = left i; right = right i; height = high i }
 
     node_lies : (i : ℕ) (side : Link → Avl K) → ((at : Link) → lies nodes (side at) ≡ true → Lies nodes (side at)) → (o : Option (Node K)) → slice_get nodes i ≡ o →
         lies nodes (read_node i o side) ≡ true → Lies nodes (read_node i o side)

@@ -1,7 +1,7 @@
 -- The slot for a new node: what is found of it, and that the tree can grow into it.
 use Rattle.std.proofs.Common.{◌≡◌, ℕ, suc, ◌+◌, ◌<◌, ◌≤◌, true, false, ltb, leb, ◌⊎◌, List, [], ◌∷◌, ◌++◌, length, get_or, sym, refl, ap, ◌∙◌, subst, inl, inr, arith, Some, None}
 use Rattle.std.specs.List.{AllByRecursion}
-use Rattle.std.proofs.lemmas.Option.{slice_get-get_or}
+use Rattle.std.proofs.lemmas.Option.{slice_get-get_or, slice_get_within}
 use Rattle.std.proofs.lemmas.Bool.{ltb-true, ltb-false, cond_both, cases_Bool}
 use Rattle.digits.proofs.Every.{all_weaker, all_left, all_right}
 use Rattle.books.specs.Meaning.{usable}
@@ -18,7 +18,6 @@ use Rattle.tree.specs.declared.states.Spot.{Spot as SpotFound}
 use Rattle.tree.specs.Standing.{Placed}
 use Rattle.tree.specs.Changes.{Spot, Changing}
 use Rattle.tree.specs.States.{Chain, StandsSoundly, NextSpot}
-use Rattle.tree.proofs.Standing.{nth_below}
 
 -- memory that serves at all serves all its slots
 usable_all : (n : ℕ) → 0 < usable n → usable n ≡ n
@@ -31,7 +30,7 @@ module _ {K : Type 0} (nodes : List (Node K)) (state : State) (m : TreeModel K) 
     where
       by : (free : List ℕ) → Chain nodes state.free free → i < length nodes
       by [] c = absurd (let z : ◌≡◌ {A = ℕ} 0 1 = cc in omega arith)
-      by (j ∷ free) c = let at = c.0 in let here : j ≡ i = cc in subst (λ j. j < length nodes) here (nth_below nodes j c.1.0 c.1.1.0)
+      by (j ∷ free) c = let at = c.0 in let here : j ≡ i = cc in subst (λ j. j < length nodes) here (slice_get_within nodes j c.1.0 c.1.1.0)
 
   pub next_freed : (i : ℕ) (d : Node K) → state.free ≡ Some i → NextSpot nodes m (record { slot = state.free; free = (get_or nodes i d).left; fresh = state.fresh })
   next_freed i d is = by m.free refl s.free_stands

@@ -1,20 +1,19 @@
 -- Trees that stand in node memory: what a node that is read tells of them, and what keeps them standing.
 use Rattle.std.proofs.Common.{◌≡◌, ℕ, zero, suc, ◌<◌, List, [], ◌∷◌, length, get_or, set, Some, sym, refl, ap, ◌∙◌, subst, arith, None}
 use Rattle.std.specs.List.{slice_get, AllByRecursion}
-use Rattle.std.proofs.lemmas.Option.{slice_get_read}
+use Rattle.std.proofs.lemmas.Option.{slice_get_read, slice_get_within}
 use Rattle.digits.proofs.Every.{all_weaker, all_left, all_right}
 use Rattle.avl.specs.Avl.{Avl, tip, fork, height, slots}
 use Rattle.avl.specs.Model.{Apart}
+use Rattle.avl.proofs.Inorder.{never}
 use Rattle.tree.specs.Links.{Link}
 use Rattle.tree.specs.declared.nodes.Node.{Node}
+use Rattle.tree.specs.declared.nodes.Side.{Side}
+use Rattle.tree.specs.declared.nodes.Side.TheVariants.{Left, Right}
+use Rattle.tree.specs.Sides.{link_on}
 use Rattle.tree.specs.Standing.{link_of, node_of, Lies, Stands, told_height, height_at, Reaches}
 
 -- reads and writes of a list
-
-pub nth_below : {X : Type 0} (xs : List X) (i : ℕ) (x : X) → slice_get xs i ≡ Some x → i < length xs
-nth_below [] i x e = absurd (let z : ◌≡◌ {A = ℕ} 0 1 = cc in omega arith)
-nth_below (y ∷ xs) zero x e = omega arith
-nth_below (y ∷ xs) (suc i) x e = let h = nth_below xs i x e in omega arith
 
 pub nth_set_same : {X : Type 0} (xs : List X) (i : ℕ) (x : X) → i < length xs → slice_get (set xs i x) i ≡ Some x
 nth_set_same [] i x h = absurd (omega arith)
@@ -32,25 +31,21 @@ nth_set_other (y ∷ xs) (suc i) (suc j) x h = nth_set_other xs i j x (λ e. h (
 pub record Opened {K : Type 0} (nodes : List (Node K)) (i : ℕ) (n : Node K) (t : Avl K) : Type 0 where
   pub a : Avl K
   pub b : Avl K
-  pub is : t ≡ fork i n.key n.ticket a b
+  pub is : t ≡ fork i n.entry.key n.entry.ticket a b
   pub left : Stands nodes n.left a
   pub right : Stands nodes n.right b
   pub told : n.height ≡ height t
 
--- a link is to a slot or to nothing
-never_both : {X : Type 0} (i : ℕ) → Some i ≡ None → X
-never_both i e = absurd (let z : ◌≡◌ {A = ℕ} 0 1 = cc in omega arith)
-
 module _ {K : Type 0} where
   opens : (nodes : List (Node K)) (i : ℕ) (n : Node K) (t : Avl K) → Lies nodes t → Some i ≡ link_of t → slice_get nodes i ≡ Some n → Opened nodes i n t
-  opens nodes i n tip h at read = never_both i at
+  opens nodes i n tip h at read = never at
   opens nodes i n (fork j k v a b) h at read =
       let here : i ≡ j = cc in
       let same : n ≡ node_of k v a b = cc h.0 in
       record {
         a = a;
         b = b;
-        is = ap (λ m. fork m k v a b) (sym here) ∙ sym (ap (λ (m : Node K). fork i m.key m.ticket a b) same);
+        is = ap (λ m. fork m k v a b) (sym here) ∙ sym (ap (λ (m : Node K). fork i m.entry.key m.entry.ticket a b) same);
         left = record { lies = h.1; linked = ap (λ (m : Node K). m.left) same };
         right = record { lies = h.2; linked = ap (λ (m : Node K). m.right) same };
         told = ap (λ (m : Node K). m.height) same;
@@ -61,8 +56,8 @@ module _ {K : Type 0} where
 
   -- the same of an element that the code has read
   root_below : (nodes : List (Node K)) (i : ℕ) (t : Avl K) → Lies nodes t → Some i ≡ link_of t → i < length nodes
-  root_below nodes i tip h at = never_both i at
-  root_below nodes i (fork j k v a b) h at = let here : i ≡ j = cc in subst (λ m. m < length nodes) (sym here) (nth_below nodes j _ h.0)
+  root_below nodes i tip h at = never at
+  root_below nodes i (fork j k v a b) h at = let here : i ≡ j = cc in subst (λ m. m < length nodes) (sym here) (slice_get_within nodes j _ h.0)
 
   pub leads_inside : (nodes : List (Node K)) (at : Link) (i : ℕ) (t : Avl K) → Stands nodes at t → at ≡ Some i → i < length nodes
   leads_inside nodes at i t s is = root_below nodes i t s.lies (sym is ∙ s.linked)
@@ -73,14 +68,14 @@ module _ {K : Type 0} where
   -- a link to nothing has no tree
   pub absent : (nodes : List (Node K)) (at : Link) (t : Avl K) → Stands nodes at t → at ≡ None → t ≡ tip
   absent nodes at tip s is = refl
-  absent nodes at (fork i k v a b) s is = never_both i (sym s.linked ∙ is)
+  absent nodes at (fork i k v a b) s is = never (sym s.linked ∙ is)
 
   pub nothing_stands : (nodes : List (Node K)) → Stands nodes None tip
   nothing_stands nodes = record { lies = tt; linked = refl }
 
   reaches_root : (nodes : List (Node K)) (t : Avl K) → Lies nodes t → Reaches nodes (link_of t)
   reaches_root nodes tip h = tt
-  reaches_root nodes (fork i k v a b) h = nth_below nodes i _ h.0
+  reaches_root nodes (fork i k v a b) h = slice_get_within nodes i _ h.0
 
   pub reaches : (nodes : List (Node K)) (at : Link) (t : Avl K) → Stands nodes at t → Reaches nodes at
   reaches nodes at t s = subst (Reaches nodes) (sym s.linked) (reaches_root nodes t s.lies)
@@ -93,18 +88,16 @@ module _ {K : Type 0} where
   pub told_truly : (nodes : List (Node K)) (at : Link) (t : Avl K) → Stands nodes at t → height_at nodes at ≡ height t
   told_truly nodes at t s = ap (height_at nodes) s.linked ∙ told_of_root nodes t s.lies
 
-  -- the sides of a node that was read are lower than it
-  pub left_lower : (nodes : List (Node K)) (at : Link) (i : ℕ) (n : Node K) (t : Avl K) → Stands nodes at t → Opened nodes i n t → height_at nodes n.left < height_at nodes at
-  left_lower nodes at i n t s o =
-      let here = told_truly nodes at t s ∙ ap height o.is in
-      let side = told_truly nodes n.left o.a o.left in
-      omega arith
+  -- a side of a node that was read is lower than it
+  pub side_lower : (nodes : List (Node K)) (at : Link) (i : ℕ) (n : Node K) (t : Avl K) → Stands nodes at t → Opened nodes i n t → (side : Side) → height_at nodes (link_on side n) < height_at nodes at
+  side_lower nodes at i n t s o side = by side
+    where
+      here : height_at nodes at ≡ height (fork i n.entry.key n.entry.ticket o.a o.b)
+      here = told_truly nodes at t s ∙ ap height o.is
 
-  pub right_lower : (nodes : List (Node K)) (at : Link) (i : ℕ) (n : Node K) (t : Avl K) → Stands nodes at t → Opened nodes i n t → height_at nodes n.right < height_at nodes at
-  right_lower nodes at i n t s o =
-      let here = told_truly nodes at t s ∙ ap height o.is in
-      let side = told_truly nodes n.right o.b o.right in
-      omega arith
+      by : (side : Side) → height_at nodes (link_on side n) < height_at nodes at
+      by Left = let part = told_truly nodes n.left o.a o.left in omega (arith, here)
+      by Right = let part = told_truly nodes n.right o.b o.right in omega (arith, here)
 
   -- a tree whose slots did not change stands as it stood
   lies_still : (nodes after : List (Node K)) (t : Avl K) → AllByRecursion (λ j. slice_get after j ≡ slice_get nodes j) (slots t) → Lies nodes t → Lies after t

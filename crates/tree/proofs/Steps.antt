@@ -1,5 +1,5 @@
 -- What each call leaves in memory stands soundly as the model's next step.
-use Rattle.std.proofs.Common.{◌≡◌, ℕ, Bool, true, false, List, [], ◌∷◌, length, not, eqb, Ok, Err, Result, Ordering, sym, refl, ap, ◌∙◌, subst, arith}
+use Rattle.std.proofs.Common.{◌≡◌, ℕ, Bool, true, false, List, [], ◌∷◌, length, not, eqb, Ok, Err, Option, Result, Ordering, sym, refl, ap, ◌∙◌, subst, arith}
 use Rattle.std.specs.List.{slice_get, AllByRecursion}
 use Rattle.std.proofs.lemmas.Bool.{cond-false, ne_eqb, eq-eqb}
 use Rattle.books.specs.Calls.{Call, Add, Take, Find, SeekFrom, SeekAfter, Answer, Found, Sought}
@@ -7,8 +7,8 @@ use Rattle.books.specs.Meaning.{usable}
 use Rattle.avl.specs.Avl.{seek, path}
 use Rattle.avl.specs.Model.{TreeModel, counted, served_step, tree_step, Sound}
 use Rattle.avl.proofs.Soundness.{model_kept}
-use Rattle.tree.specs.declared.descents.Finding.{Finding}
-use Rattle.tree.specs.declared.descents.Seeking.{Seeking}
+use Rattle.books.specs.declared.entries.Entry.{Entry}
+use Rattle.tree.specs.declared.counted.Counted.{Counted}
 use Rattle.tree.specs.Links.{Link}
 use Rattle.tree.specs.declared.nodes.Node.{Node}
 use Rattle.tree.specs.declared.states.State.{State}
@@ -105,15 +105,15 @@ module _ {K : Type 0} {order : K → K → Ordering} {step : Call K → Answer K
     sound = sound;
   })
 
-  pub found_done : {k : K} {r : Finding} → FindsBelow order nodes state.root k r → CallDone (step (Find k)) (Found (Ok r.ticket)) nodes (counted_state state r.comparisons)
+  pub found_done : {k : K} {r : Counted (Option ℕ)} → FindsBelow order nodes state.root k r → CallDone (step (Find k)) (Found (Ok r.answer)) nodes (counted_state state r.comparisons)
   found_done {k} finds =
       let found = finds m.tree (tree_placed nodes state m b.stands 250 (omega arith)) in
-      done_so (ap (λ ticket. Found (Ok ticket)) found.ticket) refl (ap (counted_state state) found.comparisons) (counted_done (Find k) refl)
+      done_so (ap (λ ticket. Found (Ok ticket)) found.answer) refl (ap (counted_state state) found.comparisons) (counted_done (Find k) refl)
 
-  pub sought_done : (after : Bool) {k : K} {r : Seeking K} → SeeksBelow after order nodes state.root k r → CallDone (step (seek_call after k)) (Sought (Ok r.entry)) nodes (counted_state state r.comparisons)
+  pub sought_done : (after : Bool) {k : K} {r : Counted (Option (Entry K))} → SeeksBelow after order nodes state.root k r → CallDone (step (seek_call after k)) (Sought (Ok r.answer)) nodes (counted_state state r.comparisons)
   sought_done after {k} {r} seeks =
       let sought = seeks m.tree (tree_placed nodes state m b.stands 250 (omega arith)) in
-      done_so (ap (λ entry. Sought (Ok entry)) sought.entry) refl (ap (counted_state state) sought.comparisons) (by after)
+      done_so (ap (λ entry. Sought (Ok entry)) sought.answer) refl (ap (counted_state state) sought.comparisons) (by after)
     where
       by : (after : Bool) → CallDone (step (seek_call after k)) (Sought (Ok (seek after order m.tree k))) nodes (counted_state state (path after order m.tree k))
       by false = counted_done (SeekFrom k) refl

@@ -12,8 +12,8 @@ use Rattle.avl.specs.Avl.{slots, remove, freed, find, path}
 use Rattle.avl.specs.Model.{TreeModel, freed_first, counted, shrunk, served_step, Apart, Sound}
 use Rattle.avl.proofs.Inorder.{remove_slots}
 use Rattle.avl.proofs.Slots.{split, crossed, distinct_less, remove_size}
-use Rattle.tree.specs.declared.changes.Removal.{Removal}
-use Rattle.tree.specs.declared.changes.Gone.{Gone}
+use Rattle.tree.specs.declared.changes.Cut.{Cut}
+use Rattle.tree.specs.declared.counted.Counted.{Counted}
 use Rattle.tree.specs.declared.nodes.Node.{Node}
 use Rattle.tree.specs.declared.states.State.{State}
 use Rattle.tree.specs.Standing.{Reshaped}
@@ -25,7 +25,7 @@ use Rattle.tree.proofs.Steps.{chain_still, CallDone, done_so, Begun, done, count
 use Rattle.keys.specs.declared.refusals.Refusal.TheVariants.{KeyNotHeld}
 
 module _ {K : Type 0} {order : K → K → Ordering} {step : Call K → Answer K × TreeModel K} {nodes : List (Node K)} {state : State} {m : TreeModel K} (b : Begun order step nodes state m)
-    {k : K} {after : List (Node K)} (kept : length after ≡ length nodes) {r : Removal} (removes : Removes order nodes state.root k after r) where
+    {k : K} {after : List (Node K)} (kept : length after ≡ length nodes) {r : Counted (Option (Cut ℕ))} (removes : Removes order nodes state.root k after r) where
   -- by what is found, what a take answers and leaves
   abbrev take_outcome : Option ℕ → Answer K × TreeModel K
   take_outcome found = (Taken (take_answer found), where_ok (take_answer found) (shrunk order m k) (counted (path false order m.tree k) m))
@@ -37,15 +37,15 @@ module _ {K : Type 0} {order : K → K → Ordering} {step : Call K → Answer K
   removed = removes m.tree (can_shrink nodes state m b.stands)
 
   -- what goes was found, and left a slot of the tree
-  record Went (gone : Gone) : Type 0 where
-    found : find order m.tree k ≡ Some gone.ticket
+  record Went (gone : Cut ℕ) : Type 0 where
+    found : find order m.tree k ≡ Some gone.out
     spare : freed order m.tree k ≡ Some gone.slot
     shaped : Reshaped nodes after (slots m.tree) gone.top (remove order m.tree k)
 
-  went : (gone : Gone) → r.gone ≡ Some gone → Went gone
+  went : (gone : Cut ℕ) → r.answer ≡ Some gone → Went gone
   went gone is = by (find order m.tree k) refl removed.outcome
     where
-      by : (found : Option ℕ) → find order m.tree k ≡ found → ShrunkBy order found nodes m.tree k after r.gone → Went gone
+      by : (found : Option ℕ) → find order m.tree k ≡ found → ShrunkBy order found nodes m.tree k after r.answer → Went gone
       by None f out = absurd (let no = out.0 in let z : ◌≡◌ {A = ℕ} 0 1 = cc in omega arith)
       by (Some held) f out =
           let told = out.1.0 in
@@ -53,15 +53,15 @@ module _ {K : Type 0} {order : K → K → Ordering} {step : Call K → Answer K
           let ticket = out.1.1 in
           subst Went same (record { found = f ∙ ap Some (sym ticket); spare = out.1.2; shaped = out.1.3 })
 
-  pub not_taken_done : r.gone ≡ None → CallDone (step (Take k)) (Taken (Err KeyNotHeld)) after (counted_state state r.comparisons)
+  pub not_taken_done : r.answer ≡ None → CallDone (step (Take k)) (Taken (Err KeyNotHeld)) after (counted_state state r.comparisons)
   not_taken_done is = by (find order m.tree k) refl removed.outcome
     where
-      by : (found : Option ℕ) → find order m.tree k ≡ found → ShrunkBy order found nodes m.tree k after r.gone → CallDone (step (Take k)) (Taken (Err KeyNotHeld)) after (counted_state state r.comparisons)
+      by : (found : Option ℕ) → find order m.tree k ≡ found → ShrunkBy order found nodes m.tree k after r.answer → CallDone (step (Take k)) (Taken (Err KeyNotHeld)) after (counted_state state r.comparisons)
       by None f out =
           done_so refl out.1 (ap (counted_state state) removed.comparisons) (counted_done b (Take k) (take_is None f))
       by (Some held) f out = absurd (let told = out.1.0 in let z : ◌≡◌ {A = ℕ} 0 1 = cc in omega arith)
 
-  module _ {gone : Gone} (is : r.gone ≡ Some gone) where
+  module _ {gone : Cut ℕ} (is : r.answer ≡ Some gone) where
     -- a slot of the tree is in the memory
     pub gone_inside : gone.slot < length after
     gone_inside =
@@ -111,5 +111,5 @@ module _ {K : Type 0} {order : K → K → Ordering} {step : Call K → Answer K
             sound = sound;
           }
 
-      pub taken_done : CallDone (step (Take k)) (Taken (Ok gone.ticket)) last shrunk_state
-      taken_done = done b (Take k) (take_is (Some gone.ticket) (went gone is).found) shrunk_stands
+      pub taken_done : CallDone (step (Take k)) (Taken (Ok gone.out)) last shrunk_state
+      taken_done = done b (Take k) (take_is (Some gone.out) (went gone is).found) shrunk_stands

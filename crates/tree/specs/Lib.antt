@@ -1,4 +1,5 @@
 pub mod Links
+pub mod Sides
 pub mod Blank
 pub mod Standing
 pub mod Shaping

@@ -1,6 +1,7 @@
 -- How a tree stands in node memory.
 use Rattle.std.specs.Prelude.{◌≡◌, ℕ, suc, ◌<◌, ◌≤◌, max, List, length, Some, None, Option}
 use Rattle.std.specs.List.{slice_get}
+use Rattle.books.specs.Plain.{entry}
 use Rattle.avl.specs.Avl.{Avl, tip, fork, height, slots}
 use Rattle.avl.specs.Model.{Apart, Distinct}
 use Rattle.tree.specs.Links.{Link}
@@ -13,7 +14,7 @@ link_of (fork i k v a b) = Some i
 
 -- the node over two sides
 abbrev pub node_of : {K : Type 0} → K → ℕ → Avl K → Avl K → Node K
-node_of k v a b = record { key = k; ticket = v; left = link_of a; right = link_of b; height = suc (max (height a) (height b)) }
+node_of k v a b = record { entry = entry k v; left = link_of a; right = link_of b; height = suc (max (height a) (height b)) }
 
 -- each slot of the tree holds its node
 abbrev pub Lies : {K : Type 0} → List (Node K) → Avl K → Type 0

@@ -4,6 +4,7 @@ use Rattle.std.specs.List.{slice_get}
 use Rattle.std.specs.Option.{option_eq}
 use Rattle.books.specs.Calls.{Call, SeekFrom, SeekAfter}
 use Rattle.books.specs.Meaning.{usable}
+use Rattle.books.specs.Plain.{entry}
 use Rattle.avl.specs.Avl.{Avl, tip, fork, height, size, slots}
 use Rattle.avl.specs.Model.{TreeModel, Sound, next_slot, free_after, fresh_after}
 use Rattle.tree.specs.Links.{Link}
@@ -15,7 +16,7 @@ use Rattle.tree.specs.Standing.{link_of, Stands}
 -- the tree at a link, to a depth; no tree in its slots is deeper than 100
 abbrev pub read_node : {K : Type 0} → ℕ → Option (Node K) → (Link → Avl K) → Avl K
 read_node i None side = tip
-read_node i (Some n) side = fork i n.key n.ticket (side n.left) (side n.right)
+read_node i (Some n) side = fork i n.entry.key n.entry.ticket (side n.left) (side n.right)
 
 unfoldable pub read_tree : {K : Type 0} → ℕ → List (Node K) → Link → Avl K
 read_tree zero nodes at = tip
@@ -59,7 +60,7 @@ seek_call true s = SeekAfter s
 
 -- a free slot's node: height 0, and a link to the slot freed before it
 abbrev pub free_node : {K : Type 0} → Node K → Link → Node K
-free_node n next = record { key = n.key; ticket = 0; left = next; right = None; height = 0 }
+free_node n next = record { entry = entry n.entry.key 0; left = next; right = None; height = 0 }
 
 -- slot i became free: its node leads on to the slots freed before it
 pub record MadeFree {K : Type 0} (nodes : List (Node K)) (i : ℕ) (next : Link) (after : List (Node K)) : Type 0 where

@@ -1,265 +1,166 @@
 //! Insertion and removal in node memory: down by one comparison at each node, and back with each node put in balance.
 
-ghost use Rattle.std.specs.Prelude.{None};
+ghost use Rattle.std.specs.Prelude.{◌≡◌, None, Some};
 ghost use Rattle.avl.specs.Avl.{balance, tip};
 ghost use Rattle.tree.specs.Changes.{Spot, GrownBy, Changeable, Inserts, TakesTheLeast, Sided, JoinsUp, Removes};
 ghost use Rattle.tree.specs.Shaping.{Joinable, Joins};
+ghost use Rattle.tree.specs.Sides.{with_link};
 
-use crate::nodes::{Link, Node};
+use crate::counted::Counted;
+use crate::nodes::{Link, Node, Side};
 use crate::shaping::{put, settle};
+use books::Entry;
 use keys::{OrderedKey, Refusal};
-use std::cmp::Ordering;
 
-/// The link to the tree with the new pair, or why there is none; and how many comparisons it took.
+/// A tree that lost a pair: what of the pair is asked for, the slot that is free then, and the link to what is left.
 #[derive(Clone, Copy)]
-pub(crate) struct Insertion {
-    pub top: Result<Link, Refusal>,
-    pub comparisons: u32,
-}
-
-/// The least pair of a tree, the slot that it was in, and the link to the tree without it.
-#[derive(Clone, Copy)]
-pub(crate) struct Least<K> {
-    pub key: K,
-    pub ticket: u32,
+pub(crate) struct Cut<T> {
+    pub out: T,
     pub slot: u16,
     pub top: Link,
 }
 
-/// The link to what stands in place of a node whose pair went, and the slot that is free then.
-#[derive(Clone, Copy)]
-pub(crate) struct Joint {
-    pub top: Link,
-    pub slot: u16,
-}
-
-/// The ticket of the pair that went, the slot that is free then, and the link to the tree without it.
-#[derive(Clone, Copy)]
-pub(crate) struct Gone {
-    pub ticket: u32,
-    pub slot: u16,
-    pub top: Link,
-}
-
-/// What went, if the key was held; and how many comparisons it took.
-#[derive(Clone, Copy)]
-pub(crate) struct Removal {
-    pub gone: Option<Gone>,
-    pub comparisons: u32,
-}
-
-/// Puts a pair into the tree at a link, in the given slot. A key that is held is refused before a missing slot is.
+/// Puts a pair into the tree at a link, in the given slot, and answers the link to the tree with it. A key that is held
+/// is refused before a missing slot is.
 pub(crate) fn insert<K: OrderedKey>(
     nodes: &mut [Node<K>],
     at: Link,
-    key: &K,
-    ticket: u32,
+    entry: &Entry<K>,
     slot: Link,
-) -> Insertion
+) -> Counted<Result<Link, Refusal>>
     requires { Changeable nodes.old at slot }
-    ensures { Inserts K.OrderedKey.order nodes.old at slot key.now ticket nodes.new result }
+    ensures { Inserts K.OrderedKey.order nodes.old at slot entry.now.key entry.now.ticket nodes.new result }
 {
-    match at {
-        None => Insertion {
-            top: new_leaf(nodes, key, ticket, slot),
+    let Some(i) = at else {
+        return Counted {
+            answer: new_leaf(nodes, entry, slot),
             comparisons: 0,
-        },
-        Some(i) => {
-            let n = nodes[i as usize];
-            match key.compare(&n.key) {
-                Ordering::Less => {
-                    let below = insert(nodes, n.left, key, ticket, slot);
-                    let comparisons = below.comparisons + 1;
-                    match below.top {
-                        Ok(side) => {
-                            let top = settle(nodes, i, n.key, n.ticket, side, n.right);
-                            Insertion {
-                                top: Ok(top),
-                                comparisons,
-                            }
-                        }
-                        refused => Insertion {
-                            top: refused,
-                            comparisons,
-                        },
-                    }
-                }
-                Ordering::Equal => Insertion {
-                    top: Err(Refusal::KeyHeld),
-                    comparisons: 1,
-                },
-                Ordering::Greater => {
-                    let below = insert(nodes, n.right, key, ticket, slot);
-                    let comparisons = below.comparisons + 1;
-                    match below.top {
-                        Ok(side) => {
-                            let top = settle(nodes, i, n.key, n.ticket, n.left, side);
-                            Insertion {
-                                top: Ok(top),
-                                comparisons,
-                            }
-                        }
-                        refused => Insertion {
-                            top: refused,
-                            comparisons,
-                        },
-                    }
-                }
-            }
-        }
+        };
+    };
+    let node = nodes[i as usize];
+    let Some(side) = Side::of(entry.key.compare(&node.entry.key)) else {
+        return Counted {
+            answer: Err(Refusal::KeyHeld),
+            comparisons: 1,
+        };
+    };
+    let below = insert(nodes, node.link(side), entry, slot);
+    let answer = match below.answer {
+        Ok(top) => Ok(settle(nodes, i, node.with_link(side, top))),
+        Err(refusal) => Err(refusal),
+    };
+    Counted {
+        answer,
+        comparisons: below.comparisons + 1,
     }
 }
 
 // A new key becomes a leaf.
 fn new_leaf<K: OrderedKey>(
     nodes: &mut [Node<K>],
-    key: &K,
-    ticket: u32,
+    entry: &Entry<K>,
     slot: Link,
 ) -> Result<Link, Refusal>
     requires { Spot nodes.old slot tip }
-    ensures { GrownBy K.OrderedKey.order None slot nodes.old tip key.now ticket nodes.new result }
+    ensures { GrownBy K.OrderedKey.order None slot nodes.old tip entry.now.key entry.now.ticket nodes.new result }
 {
     match slot {
         None => Err(Refusal::BookFull),
-        Some(s) => Ok(put(nodes, s, *key, ticket, None, None)),
+        Some(s) => Ok(put(nodes, s, Node::bare(*entry))),
     }
 }
 
-// Puts a node in balance over a side that lost a pair. A take can make several nodes lean, so every node on the way
-// back goes through here, not only the first one that is turned.
-fn settle_again<K: Copy>(
+// Puts a node over a side that lost a pair, and in balance again. A take can make several nodes lean, so every node on
+// the way back goes through here, not only the first one that is turned.
+fn close<K: Copy, T>(
     nodes: &mut [Node<K>],
     i: u16,
-    key: K,
-    ticket: u32,
-    left: Link,
-    right: Link,
-) -> Link
-    requires { Joinable 250 nodes.old i left right }
-    ensures { Joins 250 (balance i key ticket) nodes.old i left right nodes.new result }
+    node: Node<K>,
+    side: Side,
+    below: Cut<T>,
+) -> Cut<T>
+    requires { Joinable 250 nodes.old i (with_link side below.top node) }
+    ensures same { (result.out ≡ below.out) × (result.slot ≡ below.slot) }
+    ensures left { Joins 250 balance nodes.old i (with_link side below.top node) nodes.new result.top }
 {
-    settle(nodes, i, key, ticket, left, right)
+    let top = settle(nodes, i, node.with_link(side, below.top));
+    Cut { top, ..below }
 }
 
 // Takes the least pair out of the tree whose root is in slot `i`.
-fn take_least<K: Copy>(nodes: &mut [Node<K>], i: u16) -> Least<K>
+fn take_least<K: Copy>(nodes: &mut [Node<K>], i: u16) -> Cut<Entry<K>>
     requires { Changeable nodes.old (Some i) None }
     ensures { TakesTheLeast nodes.old i nodes.new result }
 {
-    let n = nodes[i as usize];
-    match n.left {
-        None => Least {
-            key: n.key,
-            ticket: n.ticket,
+    let node = nodes[i as usize];
+    match node.left {
+        None => Cut {
+            out: node.entry,
             slot: i,
-            top: n.right,
+            top: node.right,
         },
         Some(j) => {
             let least = take_least(nodes, j);
-            let top = settle_again(nodes, i, n.key, n.ticket, least.top, n.right);
-            Least {
-                key: least.key,
-                ticket: least.ticket,
+            close(nodes, i, node, Side::Left, least)
+        }
+    }
+}
+
+// Takes the node's own pair out of slot `i`: in its place comes its one side, or slot `i` again with the least pair of
+// its right side.
+fn take_root<K: Copy>(nodes: &mut [Node<K>], i: u16, node: Node<K>) -> Cut<u32>
+    requires { Sided nodes.old i node }
+    ensures { JoinsUp nodes.old i node nodes.new result }
+{
+    let out = node.entry.ticket;
+    match (node.left, node.right) {
+        (None, top) => Cut { out, slot: i, top },
+        (top, None) => Cut { out, slot: i, top },
+        (Some(_), Some(m)) => {
+            let least = take_least(nodes, m);
+            let heir = Node {
+                entry: least.out,
+                right: least.top,
+                ..node
+            };
+            Cut {
+                out,
                 slot: least.slot,
-                top,
+                top: settle(nodes, i, heir),
             }
         }
     }
 }
 
-// Puts something in place of the node in slot `i`, whose pair goes: its one side, or slot `i` again with the least
-// pair of its right side.
-fn join<K: Copy>(nodes: &mut [Node<K>], i: u16, left: Link, right: Link) -> Joint
-    requires { Sided nodes.old i left right }
-    ensures { JoinsUp nodes.old i left right nodes.new result }
-{
-    match left {
-        None => Joint {
-            top: right,
-            slot: i,
-        },
-        Some(_) => match right {
-            None => Joint { top: left, slot: i },
-            Some(m) => {
-                let least = take_least(nodes, m);
-                let top = settle(nodes, i, least.key, least.ticket, left, least.top);
-                Joint {
-                    top,
-                    slot: least.slot,
-                }
-            }
-        },
-    }
-}
-
-/// Takes the pair of a key out of the tree at a link.
-pub(crate) fn remove<K: OrderedKey>(nodes: &mut [Node<K>], at: Link, key: &K) -> Removal
+/// Takes the pair of a key out of the tree at a link, and answers its ticket.
+pub(crate) fn remove<K: OrderedKey>(
+    nodes: &mut [Node<K>],
+    at: Link,
+    key: &K,
+) -> Counted<Option<Cut<u32>>>
     requires { Changeable nodes.old at None }
     ensures { Removes K.OrderedKey.order nodes.old at key.now nodes.new result }
 {
-    match at {
-        None => Removal {
-            gone: None,
+    let Some(i) = at else {
+        return Counted {
+            answer: None,
             comparisons: 0,
-        },
-        Some(i) => {
-            let n = nodes[i as usize];
-            match key.compare(&n.key) {
-                Ordering::Less => {
-                    let below = remove(nodes, n.left, key);
-                    let comparisons = below.comparisons + 1;
-                    match below.gone {
-                        Some(gone) => {
-                            let top = settle_again(nodes, i, n.key, n.ticket, gone.top, n.right);
-                            Removal {
-                                gone: Some(Gone {
-                                    ticket: gone.ticket,
-                                    slot: gone.slot,
-                                    top,
-                                }),
-                                comparisons,
-                            }
-                        }
-                        None => Removal {
-                            gone: None,
-                            comparisons,
-                        },
-                    }
-                }
-                Ordering::Equal => {
-                    let joint = join(nodes, i, n.left, n.right);
-                    Removal {
-                        gone: Some(Gone {
-                            ticket: n.ticket,
-                            slot: joint.slot,
-                            top: joint.top,
-                        }),
-                        comparisons: 1,
-                    }
-                }
-                Ordering::Greater => {
-                    let below = remove(nodes, n.right, key);
-                    let comparisons = below.comparisons + 1;
-                    match below.gone {
-                        Some(gone) => {
-                            let top = settle_again(nodes, i, n.key, n.ticket, n.left, gone.top);
-                            Removal {
-                                gone: Some(Gone {
-                                    ticket: gone.ticket,
-                                    slot: gone.slot,
-                                    top,
-                                }),
-                                comparisons,
-                            }
-                        }
-                        None => Removal {
-                            gone: None,
-                            comparisons,
-                        },
-                    }
-                }
-            }
-        }
+        };
+    };
+    let node = nodes[i as usize];
+    let Some(side) = Side::of(key.compare(&node.entry.key)) else {
+        return Counted {
+            answer: Some(take_root(nodes, i, node)),
+            comparisons: 1,
+        };
+    };
+    let below = remove(nodes, node.link(side), key);
+    let answer = match below.answer {
+        Some(cut) => Some(close(nodes, i, node, side, cut)),
+        None => None,
+    };
+    Counted {
+        answer,
+        comparisons: below.comparisons + 1,
     }
 }

@@ -3,27 +3,18 @@
 ghost use Rattle.tree.specs.Descents.{FindsBelow, SeeksBelow};
 ghost use Rattle.tree.specs.Standing.{HoldsATree};
 
+use crate::counted::Counted;
 use crate::nodes::{Link, Node};
 use books::Entry;
 use keys::OrderedKey;
 use std::cmp::Ordering;
 
-/// The ticket that was found, and how many comparisons it took.
-#[derive(Clone, Copy)]
-pub(crate) struct Finding {
-    pub ticket: Option<u32>,
-    pub comparisons: u32,
-}
-
-/// The pair that was found, and how many comparisons it took.
-#[derive(Drop)]
-pub(crate) struct Seeking<K> {
-    pub entry: Option<Entry<K>>,
-    pub comparisons: u32,
-}
-
 /// Goes down until the key is met or a side is absent.
-pub(crate) fn find_below<K: OrderedKey>(nodes: &[Node<K>], root: Link, key: &K) -> Finding
+pub(crate) fn find_below<K: OrderedKey>(
+    nodes: &[Node<K>],
+    root: Link,
+    key: &K,
+) -> Counted<Option<u32>>
     requires { HoldsATree 250 nodes.now root }
     ensures { FindsBelow K.OrderedKey.order nodes.now root key.now result }
 {
@@ -32,19 +23,19 @@ pub(crate) fn find_below<K: OrderedKey>(nodes: &[Node<K>], root: Link, key: &K) 
     while let Some(i) = at {
         let n = &nodes[i as usize];
         comparisons += 1;
-        match key.compare(&n.key) {
+        match key.compare(&n.entry.key) {
             Ordering::Less => at = n.left,
             Ordering::Equal => {
-                return Finding {
-                    ticket: Some(n.ticket),
+                return Counted {
+                    answer: Some(n.entry.ticket),
                     comparisons,
                 };
             }
             Ordering::Greater => at = n.right,
         }
     }
-    Finding {
-        ticket: None,
+    Counted {
+        answer: None,
         comparisons,
     }
 }
@@ -55,7 +46,7 @@ pub(crate) fn seek_below<K: OrderedKey>(
     root: Link,
     key: &K,
     after: bool,
-) -> Seeking<K>
+) -> Counted<Option<Entry<K>>>
     requires { HoldsATree 250 nodes.now root }
     ensures { SeeksBelow after K.OrderedKey.order nodes.now root key.now result }
 {
@@ -64,20 +55,16 @@ pub(crate) fn seek_below<K: OrderedKey>(
     let mut compared = 0;
     while let Some(i) = at {
         let n = &nodes[i as usize];
-        let here = Entry {
-            key: n.key,
-            ticket: n.ticket,
-        };
         compared += 1;
-        match key.compare(&n.key) {
+        match key.compare(&n.entry.key) {
             Ordering::Less => {
-                above = Some(here);
+                above = Some(n.entry);
                 at = n.left;
             }
             Ordering::Equal => {
                 if !after {
-                    return Seeking {
-                        entry: Some(here),
+                    return Counted {
+                        answer: Some(n.entry),
                         comparisons: compared,
                     };
                 }
@@ -86,8 +73,8 @@ pub(crate) fn seek_below<K: OrderedKey>(
             Ordering::Greater => at = n.right,
         }
     }
-    Seeking {
-        entry: above,
+    Counted {
+        answer: above,
         comparisons: compared,
     }
 }

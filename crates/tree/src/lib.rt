@@ -4,6 +4,7 @@
 
 mod changes;
 mod clients;
+mod counted;
 mod descents;
 mod nodes;
 mod shapes;

@@ -65,7 +65,7 @@ impl<'a, K: OrderedKey> Tree<'a, K> {
                 left: n.left,
                 right: n.right,
                 height: n.height,
-                ticket: n.ticket,
+                ticket: n.entry.ticket,
             }),
             _ => None,
         }

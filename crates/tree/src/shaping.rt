@@ -1,153 +1,90 @@
 //! Nodes written over their sides, rotations, and a node put in balance.
 
-ghost use Rattle.std.specs.Prelude.{◌≡◌};
-ghost use Rattle.avl.specs.Avl.{fork, turn_right, turn_left, ready_left, ready_right, balance};
-ghost use Rattle.tree.specs.Shaping.{Joinable, Joins, Turns};
+ghost use Rattle.std.specs.Prelude.{◌≡◌, ◌≤◌};
+ghost use Rattle.avl.specs.Avl.{fork, balance};
+ghost use Rattle.tree.specs.Shaping.{Joinable, Joins, Turns, turn, ready, heavy};
 ghost use Rattle.tree.specs.Standing.{height_at, Reaches, HoldsATree};
 
-use crate::nodes::{Link, Node};
+use crate::nodes::{Link, Node, Side};
 
 // How high the tree at a link is, by what its node tells.
-pub(crate) fn height_at<K: Copy>(nodes: &[Node<K>], at: Link) -> u8
+fn height_at<K: Copy>(nodes: &[Node<K>], at: Link) -> u8
     requires { Reaches nodes.now at }
     ensures { result ≡ height_at nodes.now at }
 {
-    match at {
-        None => 0,
-        Some(i) => nodes[i as usize].height,
-    }
+    at.map_or(0, |i| nodes[i as usize].height)
 }
 
-// Makes slot `i` the node over two sides.
-pub(crate) fn put<K: Copy>(
-    nodes: &mut [Node<K>],
-    i: u16,
-    key: K,
-    ticket: u32,
-    left: Link,
-    right: Link,
-) -> Link
-    requires { Joinable 254 nodes.old i left right }
-    ensures { Joins 254 (fork i key ticket) nodes.old i left right nodes.new result }
+// Puts a node in slot `i`, its height told by its sides. What its height was does not matter, nor does it in the
+// functions below.
+pub(crate) fn put<K: Copy>(nodes: &mut [Node<K>], i: u16, node: Node<K>) -> Link
+    requires { Joinable 254 nodes.old i node }
+    ensures { Joins 254 fork nodes.old i node nodes.new result }
 {
-    let a = height_at(nodes, left);
-    let b = height_at(nodes, right);
+    let a = height_at(nodes, node.left);
+    let b = height_at(nodes, node.right);
     let height = a.max(b) + 1;
-    nodes[i as usize] = Node {
-        key,
-        ticket,
-        left,
-        right,
-        height,
-    };
+    nodes[i as usize] = Node { height, ..node };
     Some(i)
 }
 
-// Makes slot `i` the node over two sides, and turns its left side up.
-pub(crate) fn turn_right<K: Copy>(
-    nodes: &mut [Node<K>],
-    i: u16,
-    key: K,
-    ticket: u32,
-    left: Link,
-    right: Link,
-) -> Link
-    requires { Joinable 253 nodes.old i left right }
-    ensures { Joins 253 (turn_right i key ticket) nodes.old i left right nodes.new result }
+// Puts a node in slot `i`, and turns a side of it up: the root of that side comes to stand over the node.
+fn turn<K: Copy>(nodes: &mut [Node<K>], i: u16, node: Node<K>, side: Side) -> Link
+    requires { Joinable 253 nodes.old i node }
+    ensures { Joins 253 (turn side) nodes.old i node nodes.new result }
 {
-    match left {
-        None => put(nodes, i, key, ticket, left, right),
-        Some(j) => {
-            let n = nodes[j as usize];
-            let inner = put(nodes, i, key, ticket, n.right, right);
-            put(nodes, j, n.key, n.ticket, n.left, inner)
-        }
-    }
+    let Some(j) = node.link(side) else {
+        return put(nodes, i, node);
+    };
+    let root = nodes[j as usize];
+    let far = side.other();
+    let below = put(nodes, i, node.with_link(side, root.link(far)));
+    put(nodes, j, root.with_link(far, below))
 }
 
-// Makes slot `i` the node over two sides, and turns its right side up.
-pub(crate) fn turn_left<K: Copy>(
-    nodes: &mut [Node<K>],
-    i: u16,
-    key: K,
-    ticket: u32,
-    left: Link,
-    right: Link,
-) -> Link
-    requires { Joinable 253 nodes.old i left right }
-    ensures { Joins 253 (turn_left i key ticket) nodes.old i left right nodes.new result }
+// Readies a side to come up: its inner part is turned up first if that is higher than its outer part.
+fn ready<K: Copy>(nodes: &mut [Node<K>], at: Link, side: Side) -> Link
+    requires { HoldsATree 251 nodes.old at }
+    ensures { Turns 251 (ready side) nodes.old at nodes.new result }
 {
-    match right {
-        None => put(nodes, i, key, ticket, left, right),
-        Some(j) => {
-            let n = nodes[j as usize];
-            let inner = put(nodes, i, key, ticket, left, n.left);
-            put(nodes, j, n.key, n.ticket, inner, n.right)
-        }
-    }
-}
-
-// Readies a left side to come up: its inner part is turned up first if that is higher than its outer part.
-pub(crate) fn ready_left<K: Copy>(nodes: &mut [Node<K>], side: Link) -> Link
-    requires { HoldsATree 251 nodes.old side }
-    ensures { Turns 251 ready_left nodes.old side nodes.new result }
-{
-    match side {
-        None => side,
-        Some(j) => {
-            let n = nodes[j as usize];
-            let outer = height_at(nodes, n.left);
-            let inner = height_at(nodes, n.right);
-            if outer < inner {
-                turn_left(nodes, j, n.key, n.ticket, n.left, n.right)
-            } else {
-                side
-            }
-        }
-    }
-}
-
-// Readies a right side to come up: its inner part is turned up first if that is higher than its outer part.
-pub(crate) fn ready_right<K: Copy>(nodes: &mut [Node<K>], side: Link) -> Link
-    requires { HoldsATree 251 nodes.old side }
-    ensures { Turns 251 ready_right nodes.old side nodes.new result }
-{
-    match side {
-        None => side,
-        Some(j) => {
-            let n = nodes[j as usize];
-            let outer = height_at(nodes, n.right);
-            let inner = height_at(nodes, n.left);
-            if inner > outer {
-                turn_right(nodes, j, n.key, n.ticket, n.left, n.right)
-            } else {
-                side
-            }
-        }
-    }
-}
-
-// Makes slot `i` the node over two sides, and puts it in balance: a side higher by 2 is turned up.
-pub(crate) fn settle<K: Copy>(
-    nodes: &mut [Node<K>],
-    i: u16,
-    key: K,
-    ticket: u32,
-    left: Link,
-    right: Link,
-) -> Link
-    requires { Joinable 250 nodes.old i left right }
-    ensures { Joins 250 (balance i key ticket) nodes.old i left right nodes.new result }
-{
-    let a = height_at(nodes, left);
-    let b = height_at(nodes, right);
-    if b + 1 < a {
-        let up = ready_left(nodes, left);
-        turn_right(nodes, i, key, ticket, up, right)
-    } else if a + 1 < b {
-        let up = ready_right(nodes, right);
-        turn_left(nodes, i, key, ticket, left, up)
+    let Some(j) = at else {
+        return at;
+    };
+    let root = nodes[j as usize];
+    let far = side.other();
+    let outer = height_at(nodes, root.link(side));
+    let inner = height_at(nodes, root.link(far));
+    if outer < inner {
+        turn(nodes, j, root, far)
     } else {
-        put(nodes, i, key, ticket, left, right)
+        at
     }
+}
+
+// The side that is higher by 2, if there is one.
+fn heavy(left: u8, right: u8) -> Option<Side>
+    requires { (left ≤ 250) × (right ≤ 250) }
+    ensures { result ≡ heavy left right }
+{
+    if right + 1 < left {
+        Some(Side::Left)
+    } else if left + 1 < right {
+        Some(Side::Right)
+    } else {
+        None
+    }
+}
+
+// Puts a node in slot `i`, in balance: a side higher by 2 is turned up.
+pub(crate) fn settle<K: Copy>(nodes: &mut [Node<K>], i: u16, node: Node<K>) -> Link
+    requires { Joinable 250 nodes.old i node }
+    ensures { Joins 250 balance nodes.old i node nodes.new result }
+{
+    let left = height_at(nodes, node.left);
+    let right = height_at(nodes, node.right);
+    let Some(side) = heavy(left, right) else {
+        return put(nodes, i, node);
+    };
+    let up = ready(nodes, node.link(side), side);
+    turn(nodes, i, node.with_link(side, up), side)
 }

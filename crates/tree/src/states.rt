@@ -82,6 +82,6 @@ pub(crate) fn free_slot<K: Copy>(nodes: &mut [Node<K>], slot: u16, next: Link)
 {
     nodes[slot as usize] = Node {
         left: next,
-        ..Node::blank(nodes[slot as usize].key)
+        ..Node::blank(nodes[slot as usize].entry.key)
     };
 }

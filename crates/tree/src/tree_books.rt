@@ -9,7 +9,8 @@ ghost use Rattle.tree.specs.Descents.{FindsBelow, SeeksBelow};
 ghost use Rattle.tree.specs.States.{model_of, seek_call};
 
 use crate::changes::{insert, remove};
-use crate::descents::{Finding, Seeking, find_below, seek_below};
+use crate::counted::Counted;
+use crate::descents::{find_below, seek_below};
 use crate::nodes::Node;
 use crate::states::{State, free_slot};
 use crate::trees::Tree;
@@ -31,20 +32,22 @@ impl<'a, K: OrderedKey> Tree<'a, K> {
         Tree { nodes, state }
     }
 
-    // Finds the ticket of a key.
-    fn found(&self, key: &K) -> Finding
+    // Finds the ticket of a key. The nodes are lent to look through out of `&self`, since `&mut self` does not lend them
+    // on as shared.
+    fn found(&self, key: &K) -> Counted<Option<u32>>
         ensures { FindsBelow K.OrderedKey.order self.now.nodes.now self.now.state.root key.now result }
     {
         find_below(self.nodes, self.state.root, key)
     }
 
-    // Seeks from a key, or with `after` past it.
-    fn sought(&self, key: &K, after: bool) -> Seeking<K>
+    // The pair that a seek finds.
+    fn sought(&self, key: &K, after: bool) -> Counted<Option<Entry<K>>>
         ensures { SeeksBelow after K.OrderedKey.order self.now.nodes.now self.now.state.root key.now result }
     {
         seek_below(self.nodes, self.state.root, key, after)
     }
 
+    // Seeks from a key, or with `after` past it, and counts the comparisons.
     fn seek(&mut self, key: &K, after: bool) -> Result<Option<Entry<K>>, Refusal>
         ensures answer { Sought result ≡ (tree_step K.OrderedKey.order (model_of self.old.nodes.now self.old.state) (seek_call after key.now)).0 }
         ensures left { model_of self.new.nodes.now self.new.state ≡ (tree_step K.OrderedKey.order (model_of self.old.nodes.now self.old.state) (seek_call after key.now)).1 }
@@ -52,7 +55,7 @@ impl<'a, K: OrderedKey> Tree<'a, K> {
         self.start()?;
         let seeking = self.sought(key, after);
         self.state.comparisons = seeking.comparisons;
-        Ok(seeking.entry)
+        Ok(seeking.answer)
     }
 }
 
@@ -75,9 +78,10 @@ impl<'a, K: OrderedKey> Book<K> for Tree<'a, K> {
         key.is_lawful();
         self.start()?;
         let spot = self.next_spot();
-        let grown = insert(self.nodes, self.state.root, key, ticket, spot.slot);
+        let entry = Entry { key: *key, ticket };
+        let grown = insert(self.nodes, self.state.root, &entry, spot.slot);
         self.state.comparisons = grown.comparisons;
-        let root = grown.top?;
+        let root = grown.answer?;
         self.state = State {
             root,
             free: spot.free,
@@ -91,20 +95,21 @@ impl<'a, K: OrderedKey> Book<K> for Tree<'a, K> {
     fn take(&mut self, key: &K) -> Result<u32, Refusal> {
         key.is_lawful();
         self.start()?;
+        // one loan for both steps, since between them the tree is not sound
         let nodes = &mut *self.nodes;
         let shrunk = remove(nodes, self.state.root, key);
         self.state.comparisons = shrunk.comparisons;
-        let Some(gone) = shrunk.gone else {
+        let Some(cut) = shrunk.answer else {
             return Err(Refusal::KeyNotHeld);
         };
-        free_slot(nodes, gone.slot, self.state.free);
+        free_slot(nodes, cut.slot, self.state.free);
         self.state = State {
-            root: gone.top,
-            free: Some(gone.slot),
+            root: cut.top,
+            free: Some(cut.slot),
             held: self.state.held - 1,
             ..self.state
         };
-        Ok(gone.ticket)
+        Ok(cut.out)
     }
 
     fn find(&mut self, key: &K) -> Result<Option<u32>, Refusal> {
@@ -112,7 +117,7 @@ impl<'a, K: OrderedKey> Book<K> for Tree<'a, K> {
         self.start()?;
         let finding = self.found(key);
         self.state.comparisons = finding.comparisons;
-        Ok(finding.ticket)
+        Ok(finding.answer)
     }
 
     fn seek_from(&mut self, key: &K) -> Result<Option<Entry<K>>, Refusal> {

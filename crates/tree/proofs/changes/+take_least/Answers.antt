@@ -1,6 +1,6 @@
-use Rattle.std.proofs.Common.{◌<◌, length, refl, ap, arith, rules, Some}
-use Rattle.tree.specs.Standing.{height_at}
-use Rattle.tree.proofs.Removing.{root, sided, falls_left, left_changeable, least_at_root, least_rejoins, least_at_left}
+use Rattle.std.proofs.Common.{◌<◌, length, Some, sym, refl, arith, rules}
+use Rattle.tree.specs.declared.nodes.Side.TheVariants.{Left}
+use Rattle.tree.proofs.Removing.{root, sided, falls, changeable, least_at_root, least_rejoins, least_at_left}
 use Rattle.tree.proofs.Standing.{leads_inside}
 use Rattle.tree.proofs.changes.+take_least.Goals as goal
 
@@ -13,10 +13,11 @@ offset_bounds-nodes-i g t c = let h : c.args.i < length c.args.nodes.now = bound
 pub take_least-least-requires : goal.take_least-least-requires
 take_least-least-requires g t c κs within =
     let r = root c.args.nodes.now {i = c.args.i} refl c.index-nodes-i.is in
-    (omega (arith, falls_left r c.requires, ap (height_at c.args.nodes.now) c.in-Some.is, c.decreases), (within, left_changeable c.in-Some.is (sided r c.requires)))
+    let left_is = sym c.in-Some.is in
+    (omega (arith, falls r Left left_is c.requires, c.decreases), (within, changeable c.index-nodes-i.result Left left_is (sided r c.requires)))
 
-pub settle_again-top-requires : goal.settle_again-top-requires
-settle_again-top-requires g t c =
+pub close-requires : goal.close-requires
+close-requires g t c =
     let r = root c.args.nodes.now {i = c.args.i} refl c.index-nodes-i.is in
     least_rejoins r c.in-Some.is c.take_least-least.auto.nodes c.take_least-least.ensures c.requires
 
@@ -26,4 +27,4 @@ returns-in-None g t c = least_at_root (root c.args.nodes.now {i = c.args.i} refl
 pub returns-in-Some : goal.returns-in-Some
 returns-in-Some g t c =
     let r = root c.args.nodes.now {i = c.args.i} refl c.index-nodes-i.is in
-    least_at_left r c.in-Some.is c.take_least-least.auto.nodes c.take_least-least.ensures c.settle_again-top.ensures
+    least_at_left r c.in-Some.is c.take_least-least.auto.nodes c.take_least-least.ensures c.close.ensures.same c.close.ensures.left

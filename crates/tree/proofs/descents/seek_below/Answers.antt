@@ -1,22 +1,13 @@
 use Rattle.std.proofs.Common.{arith}
-use Rattle.tree.proofs.Standing.{leads_inside}
-use Rattle.tree.proofs.Descending.{few_comparisons, walk_falls_left, walk_falls_right, seek_starts, seek_ends, seek_goes_left, seek_goes_right, seek_passes, seek_meets}
+use Rattle.tree.specs.declared.nodes.Side.TheVariants.{Left, Right}
+use Rattle.tree.proofs.Descending.{few_comparisons, walk_falls, seek_ends, seek_goes_left, seek_goes_right, seek_passes, seek_meets}
 use Rattle.tree.proofs.descents.seek_below.Goals as goal
-
-pub loop-at-init : goal.loop-at-init
-loop-at-init g c t p = seek_starts p.stands
-
-pub bounds-nodes-i : goal.bounds-nodes-i
-bounds-nodes-i g c = let w = c.loop-at.invariant c.requires.0 c.requires.1 in leads_inside c.args.nodes.now c.loop-at.at c.in-Some.i w.rest w.stands c.in-Some.is
-
-pub offset_bounds-nodes-i : goal.offset_bounds-nodes-i
-offset_bounds-nodes-i g c = let h = bounds-nodes-i g c in omega arith
 
 pub overflow_add-compared : goal.overflow_add-compared
 overflow_add-compared g c = omega (arith, few_comparisons (c.loop-at.invariant c.requires.0 c.requires.1) c.requires.1.low)
 
 pub loop-at-smaller-in-Less : goal.loop-at-smaller-in-Less
-loop-at-smaller-in-Less g c = walk_falls_left (c.loop-at.invariant c.requires.0 c.requires.1) c.in-Some.is c.index-nodes-i.is
+loop-at-smaller-in-Less g c = walk_falls (c.loop-at.invariant c.requires.0 c.requires.1) c.in-Some.is c.index-nodes-i.is Left
 
 pub loop-at-preserved-in-Less : goal.loop-at-preserved-in-Less
 loop-at-preserved-in-Less g c t p = seek_goes_left c.loop-at.above (c.loop-at.invariant t p) c.in-Some.is c.index-nodes-i.is c.in-Less.ensures
@@ -25,13 +16,13 @@ pub returns-then-not-after : goal.returns-then-not-after
 returns-then-not-after g c t p = seek_meets c.loop-at.above (c.loop-at.invariant t p) c.in-Some.is c.index-nodes-i.is c.in-Equal.ensures c.if-not-after.true
 
 pub loop-at-smaller-in-Equal : goal.loop-at-smaller-in-Equal
-loop-at-smaller-in-Equal g c = walk_falls_right (c.loop-at.invariant c.requires.0 c.requires.1) c.in-Some.is c.index-nodes-i.is
+loop-at-smaller-in-Equal g c = walk_falls (c.loop-at.invariant c.requires.0 c.requires.1) c.in-Some.is c.index-nodes-i.is Right
 
 pub loop-at-preserved-in-Equal : goal.loop-at-preserved-in-Equal
 loop-at-preserved-in-Equal g c t p = seek_passes c.loop-at.above (c.loop-at.invariant t p) c.in-Some.is c.index-nodes-i.is c.in-Equal.ensures c.if-not-after.false
 
 pub loop-at-smaller : goal.loop-at-smaller
-loop-at-smaller g c = walk_falls_right (c.loop-at.invariant c.requires.0 c.requires.1) c.in-Some.is c.index-nodes-i.is
+loop-at-smaller g c = walk_falls (c.loop-at.invariant c.requires.0 c.requires.1) c.in-Some.is c.index-nodes-i.is Right
 
 pub loop-at-preserved : goal.loop-at-preserved
 loop-at-preserved g c t p = seek_goes_right c.loop-at.above (c.loop-at.invariant t p) c.in-Some.is c.index-nodes-i.is c.in-Greater.ensures

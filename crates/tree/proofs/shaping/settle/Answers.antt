@@ -1,40 +1,31 @@
-use Rattle.std.proofs.Common.{arith}
+use Rattle.std.proofs.Common.{Some, None, sym, ap, subst, ◌∙◌}
+use Rattle.tree.specs.Shaping.{Turns, ready, heavy}
+use Rattle.tree.specs.Standing.{height_at}
 use Rattle.tree.proofs.Standing.{reaches}
-use Rattle.tree.proofs.Settling.{right_fits, left_holds, right_holds, settles_even, left_comes_up, settles_left_heavy, right_comes_up, settles_right_heavy}
+use Rattle.tree.proofs.Settling.{sides_fit, heavy_by, side_holds, settles_even, comes_up, settles}
 use Rattle.tree.proofs.shaping.settle.Goals as goal
 
-pub height_at-a-requires : goal.height_at-a-requires
-height_at-a-requires g c = reaches c.args.nodes.now c.args.left c.requires.0 c.requires.1.1.left_stands
+pub height_at-right-requires : goal.height_at-right-requires
+height_at-right-requires g c = reaches c.args.nodes.now c.args.node.right c.requires.1.0 c.requires.1.1.right_stands
 
-pub height_at-b-requires : goal.height_at-b-requires
-height_at-b-requires g c = reaches c.args.nodes.now c.args.right c.requires.1.0 c.requires.1.1.right_stands
+pub heavy-requires : goal.heavy-requires
+heavy-requires g c = rw (c.height_at-left.ensures, c.height_at-right.ensures) (sides_fit c.args.node c.requires.1.1)
 
-pub overflow_add-b : goal.overflow_add-b
-overflow_add-b g c = let h = right_fits c.args.key c.args.ticket c.requires.1.1 in omega arith
+pub returns-in_default : goal.returns-in_default
+returns-in_default g c a b j =
+    let even = heavy_by _ _ None (sym c.in_default.is ∙ c.heavy.ensures ∙ ap (λ l. heavy l c.height_at-right.result) c.height_at-left.ensures ∙ ap (heavy (height_at c.args.nodes.now c.args.node.left)) c.height_at-right.ensures) in
+    settles_even c.args.node j even c.put.ensures
 
-pub ready_left-up-requires : goal.ready_left-up-requires
-ready_left-up-requires g c = left_holds c.args.key c.args.ticket c.requires.1.1
+pub ready-up-requires : goal.ready-up-requires
+ready-up-requires g c = rw c.link.ensures (side_holds c.args.node c.requires.1.1 c.in-Some.side)
 
-pub turn_right-requires : goal.turn_right-requires
-turn_right-requires g c = left_comes_up c.args.key c.args.ticket c.requires.1.1 c.ready_left-up.auto.nodes c.ready_left-up.ensures
+pub turn-requires : goal.turn-requires
+turn-requires g c =
+    let up = subst (λ l. Turns 251 (ready c.in-Some.side) c.args.nodes.now l c.ready-up.new.nodes c.ready-up.result) c.link.ensures c.ready-up.ensures in
+    comes_up c.args.node c.requires.1.1 c.in-Some.side c.ready-up.auto.nodes up c.with_link.ensures
 
-pub ready_right-up-requires : goal.ready_right-up-requires
-ready_right-up-requires g c = right_holds c.args.key c.args.ticket c.requires.1.1
-
-pub turn_left-requires : goal.turn_left-requires
-turn_left-requires g c = right_comes_up c.args.key c.args.ticket c.requires.1.1 c.ready_right-up.auto.nodes c.ready_right-up.ensures
-
-pub returns-then-b-a : goal.returns-then-b-a
-returns-then-b-a g c a b j =
-    settles_left_heavy c.args.key c.args.ticket j c.ready_left-up.auto.nodes c.ready_left-up.ensures
-    (omega (arith, c.height_at-a.ensures, c.height_at-b.ensures, c.if-b-a.true)) c.turn_right.ensures
-
-pub returns-then-a-b : goal.returns-then-a-b
-returns-then-a-b g c a b j =
-    settles_right_heavy c.args.key c.args.ticket j c.ready_right-up.auto.nodes c.ready_right-up.ensures
-    (omega (arith, c.height_at-a.ensures, c.height_at-b.ensures, c.if-a-b.true)) c.turn_left.ensures
-
-pub returns-else-a-b : goal.returns-else-a-b
-returns-else-a-b g c a b j =
-    settles_even c.args.key c.args.ticket j
-    (omega (arith, c.height_at-a.ensures, c.height_at-b.ensures, c.if-b-a.false)) (omega (arith, c.height_at-a.ensures, c.height_at-b.ensures, c.if-a-b.false)) c.put.ensures
+pub returns : goal.returns
+returns g c a b j =
+    let up = subst (λ l. Turns 251 (ready c.in-Some.side) c.args.nodes.now l c.ready-up.new.nodes c.ready-up.result) c.link.ensures c.ready-up.ensures in
+    let leans = heavy_by _ _ (Some c.in-Some.side) (sym c.in-Some.is ∙ c.heavy.ensures ∙ ap (λ l. heavy l c.height_at-right.result) c.height_at-left.ensures ∙ ap (heavy (height_at c.args.nodes.now c.args.node.left)) c.height_at-right.ensures) in
+    settles c.args.node j c.in-Some.side c.ready-up.auto.nodes up c.with_link.ensures leans c.turn.ensures
