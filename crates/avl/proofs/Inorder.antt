@@ -83,7 +83,7 @@ size_slots t = size_inorder (λ i k v. i) t
 
 -- In any order one node comes or goes.
 pub never : {X Y : Type 0} {x : X} → Some x ≡ None → Y
-never e = absurd (let z : ◌≡◌ {A = ℕ} 0 1 = cc in omega arith)
+never e = absurd cc
 
 module _ {K X : Type 0} (f : ℕ → K → ℕ → X) (order : K → K → Ordering) (k : K) (v s : ℕ) where
   pub insert_one_more : (t : Avl K) → find order t k ≡ None → OneMore (f s k v) (inorder f t) (inorder f (insert order t k v s))

@@ -71,7 +71,7 @@ served_step order m (Find k) = (Found (Ok (find order m.tree k)), counted (path 
 served_step order m (SeekFrom k) = (Sought (Ok (seek false order m.tree k)), counted (path false order m.tree k) m)
 served_step order m (SeekAfter k) = (Sought (Ok (seek true order m.tree k)), counted (path true order m.tree k) m)
 
--- 9, before all else: are there slots?
+-- before all else: are there slots?
 abbrev pub tree_step : {K : Type 0} → (K → K → Ordering) → TreeModel K → Call K → Answer K × TreeModel K
 tree_step order m c = cond (m.room == 0) (refused c NoSlots, counted 0 m) (served_step order m c)
 

@@ -17,7 +17,7 @@ served w = nat_le 1 w && nat_le w 32
 abbrev pub Served : ℕ → Type 0
 Served w = (1 ≤ w) × (w ≤ 32)
 
--- 1: is the kind 1 to 32 bytes wide? 2: are w bytes there?
+-- is the kind 1 to 32 bytes wide? and are w bytes there?
 abbrev pub width_asked : {X : Type 0} → ℕ → ℕ → Result X Refusal → Result X Refusal
 width_asked w there next = asked (served w) KindWidth (asked (nat_le w there) ShortBuffer next)
 
@@ -29,7 +29,7 @@ write_answer w there = width_asked w there (Ok tt)
 abbrev pub written : ℕ → List ℕ → List ℕ → List ℕ
 written w key before = cond (served w && nat_le w (length before)) (key ++ drop w before) before
 
--- 7: do these bytes write a value?
+-- do these bytes write a value?
 abbrev pub value_asked : {X : Type 0} → Option X → Result X Refusal
 value_asked None = Err NoValue
 value_asked (Some v) = Ok v

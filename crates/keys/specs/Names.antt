@@ -22,7 +22,7 @@ fill bytes = drop (position_or_len is_zero bytes) bytes
 abbrev pub is_name : List ℕ → Bool
 is_name bytes = length bytes == 16 && all_zero (fill bytes)
 
--- 7: do these bytes make a name? Then zeros fill them up
+-- do these bytes make a name? Then zeros fill them up
 abbrev pub named : List ℕ → Result (List ℕ) Refusal
 named text = asked (nat_le (length text) 16 && not (list_any is_zero text)) NoValue (Ok (text ++ replicate (16 - length text) 0))
 

@@ -22,8 +22,8 @@ pair_parts v w h =
     (cases_Bool test)
 
 pub both_parts : {A B P : Type 0} (pair : A → B → P) (a : Option A) (b : Option B) (p : P) → both pair a b ≡ Some p → (x : A) × (y : B) × (a ≡ Some x) × (b ≡ Some y) × (pair x y ≡ p)
-both_parts pair None b p e = let z : ◌≡◌ {A = ℕ} 0 1 = cc in absurd (omega arith)
-both_parts pair (Some x) None p e = let z : ◌≡◌ {A = ℕ} 0 1 = cc in absurd (omega arith)
+both_parts pair None b p e = absurd cc
+both_parts pair (Some x) None p e = absurd cc
 both_parts pair (Some x) (Some y) p e = (x, y, refl, refl, cc)
 
 first_refused : {A B P : Type 0} (pair : A → B → P) (a : Option A) (b : Option B) (n : Refusal) → Err n ≡ value_asked a → Err n ≡ value_asked (both pair a b)

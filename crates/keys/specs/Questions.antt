@@ -23,7 +23,7 @@ asked_yes held refusal next e = cond-true held next (Err refusal) e
 -- what was answered at the end was asked with a yes
 pub asked_ok : {X : Type 0} (held : Bool) (refusal : Refusal) (next : Result X Refusal) (x : X) → asked held refusal next ≡ Ok x → (held ≡ true) × (next ≡ Ok x)
 asked_ok true refusal next x e = (refl, e)
-asked_ok false refusal next x e = let z : ◌≡◌ {A = ℕ} 0 1 = cc in absurd (omega arith)
+asked_ok false refusal next x e = absurd cc
 
 -- both questions of a write and a read are answered with yes
 pub asked_within : {X : Type 0} (w there : ℕ) (next : Result X Refusal) → Served w → w ≤ there → width_asked w there next ≡ next

@@ -8,7 +8,7 @@ use Rattle.keys.specs.declared.refusals.Refusal.TheVariants.{FullyWalked}
 abbrev pub has_room : List Bool → Bool
 has_room walked = nat_lt (length walked) 255
 
--- 8: were fewer than 255 bits walked?
+-- were fewer than 255 bits walked?
 abbrev pub step_answer : List Bool → Result (Unit {0}) Refusal
 step_answer walked = asked (has_room walked) FullyWalked (Ok tt)
 

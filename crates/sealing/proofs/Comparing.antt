@@ -52,7 +52,7 @@ module _ (a b : List ℕ) (i : ℕ) (in_a : i < length a) (in_b : i < length b) 
 
 -- what is known of an item is known of the one that stands there
 item_at : (o : Option ℕ) (i : ℕ) (P : ℕ → Type 0) → option_map (λ y. y) o ≡ Some i → IfSome o P → P i
-item_at None i P e h = let z : ◌≡◌ {A = ℕ} 0 1 = cc in absurd (omega arith)
+item_at None i P e h = absurd cc
 item_at (Some j) i P e h = let same : j ≡ i = cc in rw same at h
 
 some_at : (o : Option ℕ) (i : ℕ) (P : ℕ → Type 0) → option_map (λ y. y) o ≡ Some i → IsSomeAnd o P → P i

@@ -52,7 +52,7 @@ module _ (f : List Bool → ℕ) (small : (list : List Bool) → f list < 3) whe
       (true ∷ later.0, later.1 ∙ append_assoc before (true ∷ []) later.0, ap (λ s. s ∷ masked f (before ++ true ∷ []) later.0) (sym (eqb-true t ((f before + 1) % 3) high)) ∙ ap (λ ss. t ∷ ss) later.2))
       (λ not_high.
       let none : None ≡ Some found = sym (cond-false (eqb t (f before)) _ _ not_low ∙ cond-false (eqb t ((f before + 1) % 3)) _ _ not_high) ∙ e in
-      let z : ◌≡◌ {A = ℕ} 0 1 = cc in absurd (omega arith))
+      absurd cc)
       (cases_Bool (eqb t ((f before + 1) % 3))))
       (cases_Bool (eqb t (f before)))
 
@@ -80,11 +80,11 @@ module _ (f : List Bool → ℕ) (small : (list : List Bool) → f list < 3) whe
           asked_ok (eqb k.width w) OtherWidth _ v (cipher_asked_ok w scratch _ v told).2
 
       from_bits : (o : Option (List Bool)) → bits_asked o (λ bs. value_asked (decode (bytes_of w bs))) ≡ Ok v → (bs : List Bool) × (o ≡ Some bs) × (decode (bytes_of w bs) ≡ Some v)
-      from_bits None e = let z : ◌≡◌ {A = ℕ} 0 1 = cc in absurd (omega arith)
+      from_bits None e = absurd cc
       from_bits (Some bs) e = (bs, refl, from_value (decode (bytes_of w bs)) e)
         where
           from_value : (o : Option V) → value_asked o ≡ Ok v → o ≡ Some v
-          from_value None e' = let z : ◌≡◌ {A = ℕ} 0 1 = cc in absurd (omega arith)
+          from_value None e' = absurd cc
           from_value (Some u) e' = let same : u ≡ v = cc in ap (λ x. Some x) same
 
       -- the key bytes that were opened write the value, and seal to the key

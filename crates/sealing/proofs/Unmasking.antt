@@ -15,12 +15,12 @@ by_bit : {X : Type 0} (low high : Bool) (bit : Bool) (next : Bool → X) (none :
     → ◌≡◌ {A = Result Bool Refusal} (Ok bit) (cond low (Ok false) (cond high (Ok true) (Err OtherSecret))) → cond low (next false) (cond high (next true) none) ≡ next bit
 by_bit true high bit next none e = let same : bit ≡ false = cc in ap next (sym same)
 by_bit false true bit next none e = let same : bit ≡ true = cc in ap next (sym same)
-by_bit false false bit next none e = let z : ◌≡◌ {A = ℕ} 0 1 = cc in absurd (omega arith)
+by_bit false false bit next none e = absurd cc
 
 by_none : {X : Type 0} (low high : Bool) (refusal : Refusal) (next : Bool → X) (none : X)
     → ◌≡◌ {A = Result Bool Refusal} (Err refusal) (cond low (Ok false) (cond high (Ok true) (Err OtherSecret))) → (cond low (next false) (cond high (next true) none) ≡ none) × (refusal ≡ OtherSecret)
-by_none true high refusal next none e = let z : ◌≡◌ {A = ℕ} 0 1 = cc in absurd (omega arith)
-by_none false true refusal next none e = let z : ◌≡◌ {A = ℕ} 0 1 = cc in absurd (omega arith)
+by_none true high refusal next none e = absurd cc
+by_none false true refusal next none e = absurd cc
 by_none false false refusal next none e = let same : refusal ≡ OtherSecret = cc in (refl, same)
 
 -- the trits of w key bytes

@@ -1,5 +1,5 @@
 -- A source that walks along has room: its steps are granted.
-use Rattle.std.proofs.Common.{◌≡◌, ℕ, ◌<◌, Bool, List, [], ◌∷◌, ◌++◌, length, Ok, Err, arith, lt-ltb}
+use Rattle.std.proofs.Common.{◌≡◌, ◌<◌, Bool, List, [], ◌∷◌, ◌++◌, length, Ok, Err, lt-ltb}
 use Rattle.std.proofs.lemmas.Bool.{cond-true}
 use Rattle.keys.specs.declared.refusals.Refusal.{Refusal}
 use Rattle.masks.specs.Walks.{has_room, step_answer, stepped}
@@ -15,4 +15,4 @@ module _ (walked : List Bool) (room : length walked < 255) where
   pub never_refused : (e : Refusal) → Err e ≡ step_answer walked → ⊥
   never_refused e told =
       let granted = step_granted in
-      let z : ◌≡◌ {A = ℕ} 0 1 = cc in omega arith
+      cc

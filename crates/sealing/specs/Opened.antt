@@ -14,7 +14,7 @@ use Rattle.keys.specs.declared.refusals.Refusal.TheVariants.{OtherWidth, OtherSe
 abbrev pub bytes_of : ℕ → List Bool → List ℕ
 bytes_of w found = packed 2 8 w (map bool_byte found)
 
--- 6: is each trit its mask or its mask plus 1 modulo 3?
+-- is each trit its mask or its mask plus 1 modulo 3?
 abbrev pub bits_asked : {X : Type 0} → Option (List Bool) → (List Bool → Result X Refusal) → Result X Refusal
 bits_asked None next = Err OtherSecret
 bits_asked (Some found) next = next found

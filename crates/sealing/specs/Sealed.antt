@@ -17,7 +17,7 @@ packed_length w = (8 * w + 4) / 5
 unfoldable pub sealed : (List Bool → ℕ) → List ℕ → SealedKey
 sealed f key = record { width = length key; bytes = packed_trits (masked f [] (bits key)) }
 
--- 1: is the kind 1 to 32 bytes wide? 2: has the scratch at least 32 bytes?
+-- is the kind 1 to 32 bytes wide? and has the scratch at least 32 bytes?
 abbrev pub cipher_asked : {X : Type 0} → ℕ → ℕ → Result X Refusal → Result X Refusal
 cipher_asked w scratch next = asked (served w) KindWidth (asked (nat_le 32 scratch) ShortBuffer next)
 
@@ -33,7 +33,7 @@ record_of w packed = record { width = w; bytes = packed ++ replicate (52 - lengt
 abbrev pub trits_only : List ℕ → Bool
 trits_only = list_all (λ b. nat_le b 242)
 
--- what taking in answers. 3: is the width 1 to 32 and the length its packed length? 4: are bytes at most 242 and pad trits 0?
+-- what taking in answers: is the width 1 to 32, and the length its packed length? and are bytes at most 242 and pad trits 0?
 abbrev pub take_in_answer : ℕ → List ℕ → Result SealedKey Refusal
 take_in_answer w packed =
     asked (served w && length packed == packed_length w) KeyLength

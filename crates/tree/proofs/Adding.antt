@@ -78,8 +78,8 @@ module _ {K : Type 0} {order : K → K → Ordering} {step : Call K → Answer K
     where
       by : (found : Option ℕ) (some : Bool) → find order m.tree k ≡ found → ltb (size m.tree) m.room ≡ some → GrownBy order found spot.slot nodes m.tree k v after r.answer →
           CallDone (step (Add k v)) (Added (Ok tt)) after (grown_state root)
-      by (Some held) some f e out = absurd (let no = out.0 in let z : ◌≡◌ {A = ℕ} 0 1 = cc in omega arith)
-      by None false f e out = absurd (let no = (in_slot None (next.full e) out).0 in let z : ◌≡◌ {A = ℕ} 0 1 = cc in omega arith)
+      by (Some held) some f e out = absurd (let no = out.0 in cc)
+      by None false f e out = absurd (let no = (in_slot None (next.full e) out).0 in cc)
       by None true f e out =
           let grew = in_slot None (next.slot e) out in
           let told = grew.1.0 in
@@ -110,4 +110,4 @@ module _ {K : Type 0} {order : K → K → Ordering} {step : Call K → Answer K
           CallDone (step (Add k v)) (Added (Err refusal)) after (counted_state state r.comparisons)
       by (Some held) some f e out = refused_done is out.0 out.1 (add_is (Some held) some f e)
       by None false f e out = let none = in_slot None (next.full e) out in refused_done is none.0 none.1 (add_is None false f e)
-      by None true f e out = absurd (let told = (in_slot None (next.slot e) out).1.0 in let z : ◌≡◌ {A = ℕ} 0 1 = cc in omega arith)
+      by None true f e out = absurd (let told = (in_slot None (next.slot e) out).1.0 in cc)

@@ -48,8 +48,8 @@ record Accepted {K : Type 0} (order : K → K → Ordering) (found : Option ℕ)
 module _ {K : Type 0} (order : K → K → Ordering) (k : K) (v : ℕ) (nodes after : List (Node K)) where
   -- an insertion that answers a link accepted the pair, and the other way round
   accepts : (found : Option ℕ) (slot : Link) (t : Avl K) (top : Link) → GrownBy order found slot nodes t k v after (Ok top) → Accepted order found slot nodes t k v after top
-  accepts (Some held) slot t top g = absurd (let e = g.0 in let z : ◌≡◌ {A = ℕ} 0 1 = cc in omega arith)
-  accepts None None t top g = absurd (let e = g.0 in let z : ◌≡◌ {A = ℕ} 0 1 = cc in omega arith)
+  accepts (Some held) slot t top g = absurd (let e = g.0 in cc)
+  accepts None None t top g = absurd (let e = g.0 in cc)
   accepts None (Some s) t top g =
       let e = g.1.0 in
       let is : g.0 ≡ top = cc in
@@ -63,7 +63,7 @@ module _ {K : Type 0} (order : K → K → Ordering) (k : K) (v : ℕ) (nodes af
   refuses : (found : Option ℕ) (slot : Link) (a t : Avl K) (refusal : Refusal) → GrownBy order found slot nodes a k v after (Err refusal) → GrownBy order found slot nodes t k v after (Err refusal)
   refuses (Some held) slot a t refusal g = g
   refuses None None a t refusal g = g
-  refuses None (Some s) a t refusal g = absurd (let e = g.1.0 in let z : ◌≡◌ {A = ℕ} 0 1 = cc in omega arith)
+  refuses None (Some s) a t refusal g = absurd (let e = g.1.0 in cc)
 
 -- what an insertion into the side a makes of t: a refusal is passed up, and an accepted pair is in t too
 module _ {K : Type 0} (order : K → K → Ordering) (k : K) (v : ℕ) (nodes : List (Node K)) (slot : Link) (t a : Avl K) (over : Avl K → Avl K) (way : GoesInto order k t a over) where

@@ -101,7 +101,7 @@ least_left {j = j} l = without_least j l.q l.w l.c l.d
 module _ {K : Type 0} {nodes mid : List (Node K)} {j : ℕ} {least : Cut (Entry K)} where
   -- a tree at a link to slot j is a node in that slot
   least_out : {at : Link} (t : Avl K) → Changing nodes at None t → at ≡ Some j → TakesTheLeast nodes j mid least → LeastOut nodes mid j t least
-  least_out tip c is all = absurd (let z : ◌≡◌ {A = ℕ} 0 1 = cc in omega arith)
+  least_out tip c is all = absurd cc
   least_out {at} (fork m q w a b) c is all =
       let here : m ≡ j = cc in
       record {

@@ -87,15 +87,15 @@ used_within nodes state m s = let within = usable_within (length nodes) in omega
 
 -- an element of the first n of a list is one of the list
 taken : {X : Type 0} (n j : ℕ) (xs : List X) (x : X) → slice_get (take n xs) j ≡ Some x → (j < n) × (slice_get xs j ≡ Some x)
-taken zero j xs x e = absurd (let z : ◌≡◌ {A = ℕ} 0 1 = cc in omega arith)
-taken (suc n) j [] x e = absurd (let z : ◌≡◌ {A = ℕ} 0 1 = cc in omega arith)
+taken zero j xs x e = absurd cc
+taken (suc n) j [] x e = absurd cc
 taken (suc n) zero (y ∷ xs) x e = (omega arith, e)
 taken (suc n) (suc j) (y ∷ xs) x e = let h = taken n j xs x e in (omega (arith, h.0), h.1)
 
 not_taken : {X : Type 0} (n j : ℕ) (xs : List X) → n ≤ length xs → slice_get (take n xs) j ≡ None → n ≤ j
 not_taken zero j xs le e = omega arith
 not_taken (suc n) j [] le e = absurd (omega arith)
-not_taken (suc n) zero (y ∷ xs) le e = absurd (let z : ◌≡◌ {A = ℕ} 0 1 = cc in omega arith)
+not_taken (suc n) zero (y ∷ xs) le e = absurd cc
 not_taken (suc n) (suc j) (y ∷ xs) le e = let h = not_taken n j xs (omega arith) e in omega arith
 
 module _ {K : Type 0} {nodes : List (Node K)} {state : State} {m : TreeModel K} (s : StandsSoundly nodes state m) (j : ℕ) where

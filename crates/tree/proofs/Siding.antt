@@ -33,15 +33,15 @@ opened_sides nodes at slot i n t c is o =
 -- one of three, by the side that a key is on
 pub by_side : {X : Type 0} (w : Ordering) (side : Side) (f : Side → X) (equal : X) → side_of w ≡ Some side → by_order w (f Left) equal (f Right) ≡ f side
 by_side Less Left f equal e = refl
-by_side Less Right f equal e = absurd (let z : ◌≡◌ {A = ℕ} 0 1 = cc in omega arith)
-by_side Equal side f equal e = absurd (let z : ◌≡◌ {A = ℕ} 0 1 = cc in omega arith)
-by_side Greater Left f equal e = absurd (let z : ◌≡◌ {A = ℕ} 0 1 = cc in omega arith)
+by_side Less Right f equal e = absurd cc
+by_side Equal side f equal e = absurd cc
+by_side Greater Left f equal e = absurd cc
 by_side Greater Right f equal e = refl
 
 pub same_key : (w : Ordering) → side_of w ≡ None → Equal ≡ w
-same_key Less e = absurd (let z : ◌≡◌ {A = ℕ} 0 1 = cc in omega arith)
+same_key Less e = absurd cc
 same_key Equal e = refl
-same_key Greater e = absurd (let z : ◌≡◌ {A = ℕ} 0 1 = cc in omega arith)
+same_key Greater e = absurd cc
 
 -- slots that are apart from some are apart from one more
 pub crossed_more : (s : ℕ) (used others : List ℕ) → Apart s others → AllByRecursion (λ m. Apart m used) others → AllByRecursion (λ m. Apart m (s ∷ used)) others

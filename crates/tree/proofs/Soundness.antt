@@ -39,8 +39,8 @@ decides_below n = decides_each (λ i. ltb i n) (λ i. i < n) (all_below n) (λ i
 
 decides_link : (a b : Link) → Decides (same_link a b) (a ≡ b)
 decides_link None None = (λ _. refl, λ _. refl)
-decides_link None (Some j) = (λ e. absurd (let z : ◌≡◌ {A = ℕ} 0 1 = cc in omega arith), λ e. absurd (let z : ◌≡◌ {A = ℕ} 0 1 = cc in omega arith))
-decides_link (Some i) None = (λ e. absurd (let z : ◌≡◌ {A = ℕ} 0 1 = cc in omega arith), λ e. absurd (let z : ◌≡◌ {A = ℕ} 0 1 = cc in omega arith))
+decides_link None (Some j) = (λ e. absurd cc, λ e. absurd cc)
+decides_link (Some i) None = (λ e. absurd cc, λ e. absurd cc)
 decides_link (Some i) (Some j) = (λ e. ap Some (eqb-true i j e), λ e. eq-eqb i j (cc))
 
 module _ {K : Type 0} where
@@ -62,7 +62,7 @@ module _ {K : Type 0} where
   module _ (nodes : List (Node K)) where
     decides_free : (free : List ℕ) → ((at : Link) → Decides (chained nodes free at) (Chain nodes at free)) → (o : Option (Node K)) →
         Decides (is_free o (chained nodes free)) ((n : Node K) × ((o ≡ Some n) × (n.height ≡ 0) × Chain nodes n.left free))
-    decides_free free on None = (λ e. absurd (let z : ◌≡◌ {A = ℕ} 0 1 = cc in omega arith), λ p. absurd (let e = p.1.0 in let z : ◌≡◌ {A = ℕ} 0 1 = cc in omega arith))
+    decides_free free on None = (λ e. absurd cc, λ p. absurd (let e = p.1.0 in cc))
     decides_free free on (Some n) =
         Decides-like (is_free (Some n) (chained nodes free)) (λ p. (n, (refl, p.0, p.1)))
         (λ p. let e = p.1.0 in let same : p.0 ≡ n = cc in (ap (λ (q : Node K). q.height) (sym same) ∙ p.1.1, subst (λ (q : Node K). Chain nodes q.left free) same p.1.2))

@@ -29,14 +29,14 @@ module _ {K : Type 0} (nodes : List (Node K)) (state : State) (m : TreeModel K) 
   freed_inside i is = by m.free s.free_stands
     where
       by : (free : List ℕ) → Chain nodes state.free free → i < length nodes
-      by [] c = absurd (let z : ◌≡◌ {A = ℕ} 0 1 = cc in omega arith)
+      by [] c = absurd cc
       by (j ∷ free) c = let at = c.0 in let here : j ≡ i = cc in subst (λ j. j < length nodes) here (slice_get_within nodes j c.1.0 c.1.1.0)
 
   pub next_freed : (i : ℕ) (d : Node K) → state.free ≡ Some i → NextSpot nodes m (record { slot = state.free; free = (get_or nodes i d).left; fresh = state.fresh })
   next_freed i d is = by m.free refl s.free_stands
     where
       by : (free : List ℕ) → m.free ≡ free → Chain nodes state.free free → NextSpot nodes m (record { slot = state.free; free = (get_or nodes i d).left; fresh = state.fresh })
-      by [] e c = absurd (let z : ◌≡◌ {A = ℕ} 0 1 = cc in omega arith)
+      by [] e c = absurd cc
       by (j ∷ free) e c =
           let at = c.0 in
           let stood = c.1.1.0 in
@@ -57,7 +57,7 @@ module _ {K : Type 0} (nodes : List (Node K)) (state : State) (m : TreeModel K) 
     where
       by : (free : List ℕ) → Chain nodes state.free free → free ≡ []
       by [] c = refl
-      by (j ∷ free) c = absurd (let at = c.0 in let z : ◌≡◌ {A = ℕ} 0 1 = cc in omega arith)
+      by (j ∷ free) c = absurd (let at = c.0 in cc)
 
   -- the lowest slot never used
   pub next_unused : state.free ≡ None → 0 < usable (length nodes) → state.fresh < length nodes → NextSpot nodes m (record { slot = Some state.fresh; free = None; fresh = state.fresh + 1 })

@@ -73,7 +73,7 @@ pub begins : {K X : Type 0} (order : K → K → Ordering) {nodes begun : List (
 begins order {nodes} {begun} state {begun_state} {x = x} sound same counts asks ok =
     let served : usable (length nodes) ≡ 0 → ⊥ = λ none.
     (let unserved : asked (not (eqb (usable (length nodes)) 0)) NoSlots (Ok x) ≡ Err NoSlots = cond-false _ _ _ (ap not (eq-eqb (usable (length nodes)) 0 none)) in
-    let z : ◌≡◌ {A = ℕ} 0 1 = cc in omega arith) in
+    cc) in
     record {
       stands = stands_from_test begun begun_state sound;
       served = λ none. served (ap (λ l. usable (length l)) (sym same) ∙ none);

@@ -46,7 +46,7 @@ module _ {K : Type 0} {order : K → K → Ordering} {step : Call K → Answer K
   went gone is = by (find order m.tree k) refl removed.outcome
     where
       by : (found : Option ℕ) → find order m.tree k ≡ found → ShrunkBy order found nodes m.tree k after r.answer → Went gone
-      by None f out = absurd (let no = out.0 in let z : ◌≡◌ {A = ℕ} 0 1 = cc in omega arith)
+      by None f out = absurd (let no = out.0 in cc)
       by (Some held) f out =
           let told = out.1.0 in
           let same : out.0 ≡ gone = cc in
@@ -59,7 +59,7 @@ module _ {K : Type 0} {order : K → K → Ordering} {step : Call K → Answer K
       by : (found : Option ℕ) → find order m.tree k ≡ found → ShrunkBy order found nodes m.tree k after r.answer → CallDone (step (Take k)) (Taken (Err KeyNotHeld)) after (counted_state state r.comparisons)
       by None f out =
           done_so refl out.1 (ap (counted_state state) removed.comparisons) (counted_done b (Take k) (take_is None f))
-      by (Some held) f out = absurd (let told = out.1.0 in let z : ◌≡◌ {A = ℕ} 0 1 = cc in omega arith)
+      by (Some held) f out = absurd (let told = out.1.0 in cc)
 
   module _ {gone : Cut ℕ} (is : r.answer ≡ Some gone) where
     -- a slot of the tree is in the memory
