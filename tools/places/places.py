@@ -146,7 +146,7 @@ POINTS = {
     "2 types of one shape": types_alike(),
     "2 arms of one shape": mirrored_arms(),
     "3 loops": lines(r"^\s*('\w+: )?(for|while|loop)\b(?! <)"),
-    "3 of them by an index or a count": lines(r"^\s*('\w+: )?(for \w+ in .*\.\.|while )"),
+    "3 of them by an index or a count": lines(r"^\s*('\w+: )?(for \w+ in .*\.\.|while (?!let))"),
     "4 comparison, copying and order by hand": lines(r"impl.* (PartialEq|Eq|Clone|Copy|PartialOrd|Ord|Hash|Debug)(<.*>)? for "),
     "4 conversion by hand": lines(r"fn (from_word|from_words|from_lowest|above_lowest|slot_of|option_of)\b"),
     "4 printing by hand": lines(r"fn (put_\w+|spell|meaning|told|trouble_told)\b"),
