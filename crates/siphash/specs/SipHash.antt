@@ -8,6 +8,10 @@ use Rattle.siphash.specs.declared.State.{State}
 abbrev pub little_endian : List ℕ → ℕ
 little_endian = from_le_bytes w64
 
+-- One byte more below a number of 64 bits.
+abbrev pub read_byte : ℕ → ℕ → ℕ
+read_byte n b = ((n * 256) % 2 ^ 64 + b) % 2 ^ 64
+
 -- The eight bytes of a word, the least significant byte first.
 abbrev pub word_bytes : ℕ → List ℕ
 word_bytes w =

@@ -2,8 +2,8 @@
 
 #![tactic(auto)]
 
-ghost use Rattle.std.specs.Prelude.{◌≡◌, ◌+◌, ◌*◌, ◌%◌, ◌^◌, ◌<◌, fold, length};
-ghost use Rattle.siphash.specs.SipHash.{little_endian, word_bytes, sip_round, initialize, compress, finalize, siphash};
+ghost use Rattle.std.specs.Prelude.{◌≡◌, ◌+◌, ◌*◌, ◌%◌, ◌^◌, ◌<◌, fold, length, reverse};
+ghost use Rattle.siphash.specs.SipHash.{little_endian, read_byte, word_bytes, sip_round, initialize, compress, finalize, siphash};
 
 /// The four words that the hash mixes.
 #[derive(Clone, Copy)]
@@ -86,16 +86,22 @@ fn compress_words(state: State, words: &[[u8; 8]]) -> State
     })
 }
 
+// Reads a number from its top byte down. What passes 64 bits is lost; of at most seven bytes nothing is.
+fn read_down(bytes: &[u8]) -> u64
+    ensures { result ≡ fold read_byte 0 (reverse bytes.now) }
+{
+    bytes.iter().rev().fold(0, |number: u64, byte| {
+        number.wrapping_mul(256).wrapping_add(u64::from(*byte))
+    })
+}
+
 /// The word that ends every message: the bytes after its last whole word, at most seven of them,
 /// and the length modulo 256 as the top byte, so that trailing zeros count.
 fn last_word(rest: &[u8], len: usize) -> u64
     requires { length rest.now < 8 }
     ensures { result ≡ (len % 256) * 2 ^ 56 + little_endian rest.now }
 {
-    let mut word = [0; 8];
-    word[..rest.len()].copy_from_slice(rest);
-    word[7] = (len % 256) as u8;
-    u64::from_le_bytes(word)
+    (len % 256) as u64 * (1 << 56) + read_down(rest)
 }
 
 /// SipHash-2-4 of the message under the key.
