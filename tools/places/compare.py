@@ -65,7 +65,7 @@ def rust(text):
 def specs(text):
     found, name, kept, proof = {}, None, [], False
     for l in text.split("\n"):
-        start = re.match(r"\s*(abbrev |unfoldable )?(pub )?(abbrev |unfoldable )?(pub )?(record |data )?([^\s:(){}]+)( [({].*)? ?: ", l)
+        start = re.match(r"\s*(abbrev |unfoldable )?(pub )?(abbrev |unfoldable )?(pub )?(record |data )?([^\s:(){}]+)( [({][^=]*)? ?: ", l)
         if start and not re.match(r"\s*pub [\w']+ : ", l) or start and name is None or start and not kept[0].lstrip().startswith("pub record"):
             if name:
                 found[name] = "\n".join(kept)

@@ -3,3 +3,4 @@ pub mod Numerals
 pub mod Names
 pub mod Sessions
 pub mod Words
+pub mod Troubles

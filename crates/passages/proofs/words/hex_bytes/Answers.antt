@@ -9,9 +9,9 @@ use Rattle.passages.proofs.words.hex_bytes.Goals as goal
 
 not_read :
     (word : List ℕ) (error : FromHexError) (trouble : Trouble) → (error ≡ FromHexError.OutOfMemory) ⊎ (decode_of word ≡ Err error) →
-    (trouble ≡ Trouble.OutOfMemory) ⊎ ((error ≢ FromHexError.OutOfMemory) × (trouble ≡ Trouble.NotUnderstood)) →
+    ((error ≡ FromHexError.OutOfMemory) × (trouble ≡ Trouble.OutOfMemory)) ⊎ ((error ≢ FromHexError.OutOfMemory) × (trouble ≡ Trouble.NotUnderstood)) →
     (trouble ≡ Trouble.OutOfMemory) ⊎ ((trouble ≡ Trouble.NotUnderstood) × (hex_read word ≡ None))
-not_read word error trouble why (inl memory) = inl memory
+not_read word error trouble why (inl memory) = inl memory.1
 not_read word error trouble (inl memory) (inr (other, is)) = absurd (other memory)
 not_read word error trouble (inr fails) (inr (other, is)) = inr (is, sym (decode_same word) ∙ ap result_ok fails)
 
