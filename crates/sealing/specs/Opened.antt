@@ -19,14 +19,15 @@ abbrev pub bits_asked : {X : Type 0} → Option (List Bool) → (List Bool → R
 bits_asked None next = Err OtherSecret
 bits_asked (Some found) next = next found
 
--- what opening answers: after 1 and 2, is the width the kind's (5)? then 6, and are the bytes a value (7)?
+-- what opening answers: after the questions of sealing, is the width the kind's? is each trit its mask or one more? and
+-- are the bytes a value?
 abbrev pub open_answer : {X : Type 0} → (List Bool → ℕ) → ℕ → (List ℕ → Option X) → ℕ → SealedKey → Result X Refusal
 open_answer f w decode scratch k =
     cipher_asked w scratch
     (asked (k.width == w) OtherWidth
     (bits_asked (unmasked f [] (take (8 * w) (trits k.bytes))) (λ found. value_asked (decode (bytes_of w found)))))
 
--- 6, of the bits behind a row of trits
+-- the same question, of the bits behind a row of trits
 abbrev pub found_answer : Option (List Bool) → Result (Unit {0}) Refusal
 found_answer o = bits_asked o (λ _. Ok tt)
 
@@ -35,6 +36,6 @@ abbrev pub FoundLeft : Option (List Bool) → List ℕ → Type 0
 FoundLeft None key = Unit {0}
 FoundLeft (Some found) key = key ≡ bytes_of (length key) found
 
--- 6, of one trit
+-- the same question, of one trit
 abbrev pub trit_answer : ℕ → ℕ → Result Bool Refusal
 trit_answer trit mask = cond (trit == mask) (Ok false) (cond (trit == (mask + 1) % 3) (Ok true) (Err OtherSecret))
