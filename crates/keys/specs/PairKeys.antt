@@ -1,13 +1,12 @@
 -- The width of a pair, and what its reads and writes come to.
-use Rattle.std.specs.Prelude.{◌≡◌, ℕ, ◌+◌, ◌-◌, ◌≤◌, ◌&&◌, List, [], ◌++◌, length, take, drop, Some, None, Ok, Err, Option, nat_le, refl}
-use Rattle.std.proofs.Common.{sym, ap, ◌∙◌, ⊎_elim, append_assoc, arith}
-use borrow.Rule.Slice.PartMut.{put_mid}
+use Rattle.std.specs.Prelude.{◌≡◌, ℕ, ◌+◌, ◌-◌, ◌≤◌, ◌&&◌, List, length, take, drop, Some, None, Ok, Err, Option, nat_le, refl}
+use Rattle.std.proofs.Common.{sym, ap, ◌∙◌, ⊎_elim, arith}
 use Rattle.std.proofs.lemmas.Bool.{and_parts, cases_Bool, cond-true, cond-false}
-use Rattle.std.proofs.lemmas.List.{append-nil, length-drop, take_at, drop_at, drop_all, take_rest, take-take, drop-take, drop-drop}
+use Rattle.std.proofs.lemmas.List.{length-drop, take_rest, take-take, drop-take}
 use Rattle.keys.specs.declared.refusals.Refusal.{Refusal}
-use Rattle.keys.specs.Kinds.{served, Served, write_answer, written, value_asked, read_answer}
+use Rattle.keys.specs.Kinds.{served, Served, write_answer, value_asked, read_answer}
 use Rattle.keys.specs.Pairs.{pair_width, both, pair_decoded}
-use Rattle.keys.specs.Questions.{served_from_test, asked_within, within_from_asked, written_within}
+use Rattle.keys.specs.Questions.{served_from_test, asked_within, within_from_asked}
 
 -- the parts of a pair that is served are served, and its width is their sum
 pub pair_parts : (v w : ℕ) → Served (pair_width v w) → Served v × Served w × (pair_width v w ≡ v + w)
@@ -25,10 +24,6 @@ pub both_parts : {A B P : Type 0} (pair : A → B → P) (a : Option A) (b : Opt
 both_parts pair None b p e = absurd cc
 both_parts pair (Some x) None p e = absurd cc
 both_parts pair (Some x) (Some y) p e = (x, y, refl, refl, cc)
-
-first_refused : {A B P : Type 0} (pair : A → B → P) (a : Option A) (b : Option B) (n : Refusal) → Err n ≡ value_asked a → Err n ≡ value_asked (both pair a b)
-first_refused pair None b n e = cc
-first_refused pair (Some x) b n e = cc
 
 second_refused : {A B P : Type 0} (pair : A → B → P) (a : Option A) (b : Option B) (x : A) (n : Refusal) → Ok x ≡ value_asked a → Err n ≡ value_asked b → Err n ≡ value_asked (both pair a b)
 second_refused pair None b x n e f = cc
@@ -70,37 +65,9 @@ module _ (v w width : ℕ) (bytes : List ℕ) (is : width ≡ pair_width v w) (a
         ap (read_answer w second) rest
         ∙ asked_within w (length (drop v bytes)) (value_asked (second (take w (drop v bytes)))) parts_within.1 (omega (arith, parts_within.3, length-drop v bytes))
 
-    pub read_first_refused : (n : Refusal) → Err n ≡ read_answer v first bytes → Err n ≡ read_answer (pair_width v w) (pair_decoded pair v first second) bytes
-    read_first_refused n e = first_refused pair (first (take v bytes)) (second (take w (drop v bytes))) n (e ∙ first_read) ∙ sym pair_read
-
     module _ (split : ℕ) (at : split ≡ v) (x : A) (e : Ok x ≡ read_answer v first bytes) where
       pub read_second_refused : (n : Refusal) → Err n ≡ read_answer w second (take (length bytes - split) (drop split bytes)) → Err n ≡ read_answer (pair_width v w) (pair_decoded pair v first second) bytes
       read_second_refused n f = second_refused pair (first (take v bytes)) (second (take w (drop v bytes))) x n (e ∙ first_read) (f ∙ second_read split at) ∙ sym pair_read
 
       pub read_both : (y : B) → Ok y ≡ read_answer w second (take (length bytes - split) (drop split bytes)) → Ok (pair x y) ≡ read_answer (pair_width v w) (pair_decoded pair v first second) bytes
       read_both y f = both_read pair (first (take v bytes)) (second (take w (drop v bytes))) x y (e ∙ first_read) (f ∙ second_read split at) ∙ sym pair_read
-
-  -- `bytes` is the buffer before, and `part` after the first write
-  module _ (split : ℕ) (at : split ≡ v) (key part : List ℕ) (long : length key ≡ v) (e : part ≡ written v key bytes) where
-    part_is : part ≡ key ++ drop v bytes
-    part_is = e ∙ written_within v key bytes parts_within.0 (omega (arith, parts_within.3))
-
-    room : take (length part - split) (drop split part) ≡ drop v bytes
-    room = take_rest part split ∙ ap (drop split) part_is ∙ drop_at key (drop v bytes) split (long ∙ sym at)
-
-    pub write_answers : write_answer w (length (take (length part - split) (drop split part))) ≡ write_answer (pair_width v w) (length bytes)
-    write_answers =
-        ap (λ t. write_answer w (length t)) room
-        ∙ asked_within w (length (drop v bytes)) (Ok tt) parts_within.1 (omega (arith, parts_within.3, length-drop v bytes))
-        ∙ sym (asked_within (pair_width v w) (length bytes) (Ok tt) served_pair.0 served_pair.1)
-
-    -- the second write leaves `rest` behind the split
-    pub write_leaves : (key' rest : List ℕ) → rest ≡ written w key' (take (length part - split) (drop split part)) → put_mid split (length part - split) part rest ≡ written (pair_width v w) (key ++ key') bytes
-    write_leaves key' rest f =
-        let front : take split part ≡ key = ap (take split) part_is ∙ take_at key (drop v bytes) split (long ∙ sym at) in
-        let none : drop (length part - split) (drop split part) ≡ [] = drop_all (length part - split) (drop split part) (omega (arith, length-drop split part)) in
-        let rest_is : rest ≡ key' ++ drop (v + w) bytes = f ∙ ap (written w key') room ∙ written_within w key' (drop v bytes) parts_within.1 (omega (arith, parts_within.3, length-drop v bytes)) ∙ ap (λ t. key' ++ t) (drop-drop w v bytes) in
-        let whole = written_within (pair_width v w) (key ++ key') bytes served_pair.0 served_pair.1 ∙ ap (λ n. (key ++ key') ++ drop n bytes) parts_within.2 in
-        ap (λ t. t ++ (rest ++ drop (length part - split) (drop split part))) front
-        ∙ ap (λ t. key ++ (rest ++ t)) none ∙ ap (λ t. key ++ t) (append-nil rest) ∙ ap (λ t. key ++ t) rest_is
-        ∙ sym (append_assoc key key' (drop (v + w) bytes)) ∙ sym whole

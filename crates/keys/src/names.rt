@@ -2,7 +2,6 @@ ghost use Rattle.std.specs.Prelude.{◌≡◌, ℕ, List, true, position};
 ghost use Rattle.std.proofs.Common.{rules};
 ghost use Rattle.digits.specs.Orders.{row_order};
 ghost use Rattle.digits.specs.Positional.{all_zero};
-ghost use Rattle.keys.specs.Kinds.{Bytes};
 ghost use Rattle.keys.specs.Names.{IsName, is_name, is_zero, named, unfilled, fill, name_decoded};
 ghost use Rattle.std.proofs.lemmas.Cmp.{nat_list_cmp_total};
 ghost use Rattle.std.specs.FinMap.{nat_cmp-IsAntisymmetric, slice_cmp-IsAntisymmetric};

@@ -1,7 +1,6 @@
 ghost use Rattle.std.specs.Prelude.{◌≡◌, ◌≤◌, [], length};
 ghost use Rattle.masks.specs.Sources.{hash_masks};
 ghost use Rattle.masks.specs.SourcesLemmas.{hash_masks_small};
-ghost use Rattle.std.proofs.Common.{rules};
 
 use crate::source::MaskSource;
 use crate::walk::Walk;

@@ -9,16 +9,16 @@ pub trait MaskSource {
 
     ghost walked: { Self → List Bool };
 
-    // Empties the list.
+    /// Empties the list.
     fn restart(&mut self)
         ensures same { masks self.new ≡ masks self.old }
         ensures list { walked self.new ≡ [] };
 
-    // The mask of the list.
+    /// The mask of the list.
     fn mask(&self) -> u8
         ensures { result ≡ masks self.now (walked self.now) };
 
-    // Appends a bit to the list.
+    /// Appends a bit to the list.
     fn step(&mut self, bit: bool) -> Result<(), Refusal>
         ensures answer { result ≡ step_answer (walked self.old) }
         ensures same { masks self.new ≡ masks self.old }

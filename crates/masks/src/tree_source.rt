@@ -1,7 +1,6 @@
 ghost use Rattle.std.specs.Prelude.{◌≡◌, ◌≤◌, [], ◌++◌, length};
 ghost use Rattle.masks.specs.Sources.{child_node, node_at, tree_masks};
 ghost use Rattle.masks.specs.SourcesLemmas.{tree_masks_small};
-ghost use Rattle.std.proofs.Common.{rules, arith};
 
 use crate::source::MaskSource;
 use crate::walk::Walk;

@@ -1,4 +1,4 @@
-ghost use Rattle.std.specs.Prelude.{◌≡◌, ◌≤◌, [], length};
+ghost use Rattle.std.specs.Prelude.{◌≡◌, [], length};
 ghost use Rattle.masks.specs.Sources.{walk_text};
 ghost use Rattle.masks.specs.Walks.{step_answer, stepped};
 
@@ -7,7 +7,7 @@ use std::marker::Model;
 
 /// A list of at most 255 bits, kept as the text that is hashed: one more bit alters two bytes.
 #[derive(Drop)]
-pub struct Walk {
+pub(crate) struct Walk {
     // the length, then the bits, the most significant place of a byte first, and zeros after them
     text: [u8; 33],
 }
@@ -25,21 +25,21 @@ impl Model for Walk {
 
 impl Walk {
     /// The empty list.
-    pub fn new() -> Walk
+    pub(crate) fn new() -> Walk
         ensures { result ≡ [] }
     {
         Walk { text: [0; 33] }
     }
 
     /// The 33 bytes that are hashed.
-    pub fn text(&self) -> &[u8; 33]
+    pub(crate) fn text(&self) -> &[u8; 33]
         ensures { result.now ≡ walk_text self.now }
     {
         &self.text
     }
 
     /// Appends a bit, if there is room.
-    pub fn push(&mut self, bit: bool) -> Result<(), Refusal>
+    pub(crate) fn push(&mut self, bit: bool) -> Result<(), Refusal>
         ensures answer { result ≡ step_answer self.old }
         ensures list { self.new ≡ stepped self.old bit }
     {

@@ -13,6 +13,7 @@ use std::io::Write;
 /// What commands set and use, besides the book.
 #[derive(Clone, Copy)]
 pub struct Desk {
+    heap: Global,
     cipher: Option<Cipher>,
 }
 
@@ -28,8 +29,8 @@ pub enum Outcome {
 }
 
 impl Desk {
-    pub fn new() -> Desk {
-        Desk { cipher: None }
+    pub fn new(heap: Global) -> Desk {
+        Desk { heap, cipher: None }
     }
 
     /// Does what a line asks, of the cipher or of the book on the shelf. A line with no words, or whose first word
@@ -37,10 +38,10 @@ impl Desk {
     pub fn answer<S: Shelf>(
         &mut self,
         shelf: &mut S,
-        heap: Global,
         number: u64,
         line: &[u8],
     ) -> io::Result<Outcome> {
+        let heap = self.heap;
         let words = words_of(heap, line)?;
         let words = words.as_slice();
         if words.first().is_none_or(|first| first.starts_with(b"#")) {
@@ -51,7 +52,7 @@ impl Desk {
         {
             return Ok(Outcome::Opens(Opening::new(heap, words, request)?));
         }
-        let reply = match self.perform(shelf, heap, words) {
+        let reply = match self.perform(shelf, words) {
             Ok(result) => told(joined(heap, head(words))?, result)?,
             Err(Trouble::NotUnderstood) => not_understood(heap, number, words)?,
             Err(Trouble::OutOfMemory) => return Err(io::Error::from(AllocError)),
@@ -61,15 +62,11 @@ impl Desk {
     }
 
     // The result of a command.
-    fn perform<S: Shelf>(
-        &mut self,
-        shelf: &mut S,
-        heap: Global,
-        words: &[&[u8]],
-    ) -> Result<String, Trouble> {
+    fn perform<S: Shelf>(&mut self, shelf: &mut S, words: &[&[u8]]) -> Result<String, Trouble> {
+        let heap = self.heap;
         match words {
             [b"cipher", kind, source, secret] => {
-                self.set_cipher(heap, Cipher::from_words(kind, source, secret)?)
+                self.set_cipher(Cipher::from_words(kind, source, secret)?)
             }
             [b"compare", width_a, packed_a, width_b, packed_b] => compare(
                 heap,
@@ -82,11 +79,9 @@ impl Desk {
                     packed: packed_b,
                 },
             ),
-            [b"seal", value] => self.ask_cipher(heap, Task::Seal(value)),
-            [b"open", width, packed] => {
-                self.ask_cipher(heap, Task::Open(KeyWords { width, packed }))
-            }
-            [b"order", _, ..] => self.ask_cipher(heap, Task::Order(&words[1..])),
+            [b"seal", value] => self.ask_cipher(Task::Seal(value)),
+            [b"open", width, packed] => { self.ask_cipher(Task::Open(KeyWords { width, packed })) }
+            [b"order", _, ..] => self.ask_cipher(Task::Order(&words[1..])),
             [b"add", value, ticket] => shelf.answer(heap, Question::Add { value, ticket }),
             [b"take", value] => shelf.answer(heap, Question::Take(value)),
             [b"find", value] => shelf.answer(heap, Question::Find(value)),
@@ -98,14 +93,16 @@ impl Desk {
         }
     }
 
-    fn set_cipher(&mut self, heap: Global, cipher: Cipher) -> Result<String, Trouble> {
+    fn set_cipher(&mut self, cipher: Cipher) -> Result<String, Trouble> {
         self.cipher = Some(cipher);
         let width = cipher.kind.width();
-        Ok(format!(in heap; "width {width}, packed {}", sealing::packed_length(width))?)
+        Ok(format!(in self.heap; "width {width}, packed {}", sealing::packed_length(width))?)
     }
 
-    fn ask_cipher(&self, heap: Global, task: Task) -> Result<String, Trouble> {
-        self.cipher.ok_or(Trouble::NoCipher)?.perform(heap, task)
+    fn ask_cipher(&self, task: Task) -> Result<String, Trouble> {
+        self.cipher
+            .ok_or(Trouble::NoCipher)?
+            .perform(self.heap, task)
     }
 }
 

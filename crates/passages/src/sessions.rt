@@ -28,11 +28,12 @@ pub struct Session {
 
 impl Session {
     pub fn new(rt: HostRuntime) -> io::Result<Session> {
-        let input = BufReader::new(rt.alloc(), rt.stdin())?;
+        let heap = rt.alloc();
+        let input = BufReader::new(heap, rt.stdin())?;
         Ok(Session {
             rt,
-            lines: input.split(rt.alloc(), b'\n').zip(1..),
-            desk: Desk::new(),
+            lines: input.split(heap, b'\n').zip(1..),
+            desk: Desk::new(heap),
         })
     }
 
@@ -49,9 +50,8 @@ impl Session {
     fn serve<S: Shelf>(&mut self, shelf: &mut S) -> io::Result<Option<Opening>>
         ensures { TakesLine self.old.lines result self.new.lines }
     {
-        let heap = self.rt.alloc();
         while let Some((line, number)) = self.lines.next() {
-            match self.desk.answer(shelf, heap, number, line?.as_slice())? {
+            match self.desk.answer(shelf, number, line?.as_slice())? {
                 Outcome::Nothing => {}
                 Outcome::Told(reply) => self.rt.stdout().write_all(reply.as_slice())?,
                 Outcome::Opens(opening) => return Ok(Some(opening)),

@@ -5,7 +5,7 @@ ghost use Rattle.passages.specs.Names.{graphic_only};
 
 use crate::replies::Hex;
 use crate::troubles::Trouble;
-use crate::words::{cut, decimal, hex_bytes, signed_decimal};
+use crate::words::{decimal, hex_bytes, signed_decimal};
 use keys::{Count, KeyKind, Level, Name, Pair, Refusal};
 use std::alloc::Global;
 use std::{fmt, str};
@@ -55,10 +55,12 @@ impl Spelled for Level {
 
 impl Spelled for Passage {
     fn from_word(_heap: Global, word: &[u8]) -> Result<Result<Passage, Refusal>, Trouble> {
-        let (lock, minute) = cut(word, b'/').ok_or(Trouble::NotUnderstood)?;
+        let (lock, minute) = str::from_utf8(word)?
+            .split_once('/')
+            .ok_or(Trouble::NotUnderstood)?;
         Ok(Ok(Pair {
-            first: Count(decimal(lock)?),
-            second: Count(decimal(minute)?),
+            first: Count(decimal(lock.as_bytes())?),
+            second: Count(decimal(minute.as_bytes())?),
         }))
     }
 

@@ -18,12 +18,6 @@ pub fn words_of(heap: Global, line: &[u8]) -> Result<Vec<&[u8]>, AllocError> {
         .collect(heap)
 }
 
-/// The parts of a word before and behind the first of these bytes.
-pub fn cut(word: &[u8], at: u8) -> Option<(&[u8], &[u8])> {
-    let place = word.iter().position(|byte| *byte == at)?;
-    Some((&word[..place], &word[place + 1..]))
-}
-
 /// The number that decimal digits write, where it is below 2^32.
 pub fn decimal(word: &[u8]) -> Result<u32, Trouble>
     ensures { result ≡ understood (decimal_read word.now) }

@@ -1,7 +1,7 @@
 -- Finding bits behind trits one by one.
-use Rattle.std.proofs.Common.{◌≡◌, ℕ, ◌+◌, ◌-◌, ◌*◌, ◌/◌, ◌%◌, ◌^◌, ◌<◌, ◌≤◌, Bool, true, false, cond, eqb, List, [], ◌∷◌, ◌++◌, map, length, get_or, take, drop, set, replicate, Some, None, Ok, Err, Option, Result, sym, refl, ap, ◌∙◌, arith, lit<}
+use Rattle.std.proofs.Common.{◌≡◌, ℕ, ◌+◌, ◌-◌, ◌*◌, ◌/◌, ◌%◌, ◌^◌, ◌<◌, ◌≤◌, Bool, true, false, cond, eqb, List, [], ◌∷◌, ◌++◌, map, length, get_or, take, drop, set, replicate, None, Ok, Err, Option, Result, sym, refl, ap, ◌∙◌, arith, lit<}
 use mir.Val.{bool_byte}
-use Rattle.std.proofs.lemmas.List.{drop_more, drop_all, get_or-take, length-map, length_push, length-take-le, map_push}
+use Rattle.std.proofs.lemmas.List.{drop_more, get_or-take, length-map, length_push, length-take-le, map_push}
 use Rattle.digits.specs.Positional.{packed, trits}
 use Rattle.digits.proofs.Bits.{bit_small, bits_small}
 use Rattle.digits.proofs.Packing.{length_unpacked, packed_nil, packed_push, push_fits}
@@ -88,7 +88,4 @@ module _ (f : List Bool → ℕ) (sealed : List ℕ) (w : ℕ) where
               written = writes_next;
               ahead = sym (at_trit ∙ by_bit (eqb trit mask) (eqb trit ((mask + 1) % 3)) bit next None told);
             }
-
-    -- all bits found
-    pub all_opened : 8 * w ≤ i → unmasked f [] (first_trits w sealed) ≡ Some so_far.found
-    all_opened end = sym so_far.ahead ∙ ap (unmasked f so_far.found) (drop_all i (first_trits w sealed) (let s = size in omega arith))
+        -- all bits found

@@ -58,10 +58,6 @@ module _ {K : Type 0} {after : Bool} {order : K → K → Ordering} {nodes : Lis
           count = let here = subst (λ u. comparisons + path after order u s ≡ path after order t s) o.is w.count in omega arith;
         }
 
-or_none : {X : Type 0} (o : Option X) → option_or o None ≡ o
-or_none None = refl
-or_none (Some x) = refl
-
 or_kept : {X : Type 0} (o kept : Option X) (x : X) → option_or (or_else o x) kept ≡ option_or o (Some x)
 or_kept None kept x = refl
 or_kept (Some y) kept x = refl
@@ -75,9 +71,6 @@ abbrev pub SeeksOn : {K : Type 0} → Bool → (K → K → Ordering) → List (
 SeeksOn after order nodes s kept t = Walk after order nodes s t (λ u. option_or (seek after order u s) kept ≡ seek after order t s)
 
 module _ {K : Type 0} {order : K → K → Ordering} {nodes : List (Node K)} {s : K} {t : Avl K} where
-  pub find_starts : {at : Link} → Stands nodes at t → FindsOn order nodes s t at 0
-  find_starts h = record { rest = t; stands = h; known = refl; count = omega arith }
-
   module _ {at : Link} {comparisons : ℕ} (w : FindsOn order nodes s t at comparisons) where
     pub find_ends : at ≡ None → FoundIn order t s (record { answer = None; comparisons = comparisons })
     find_ends is =
@@ -98,9 +91,6 @@ module _ {K : Type 0} {order : K → K → Ordering} {nodes : List (Node K)} {s 
       find_meets e = let o = walk_at w is read e in record { answer = sym (picks _ _ _ e) ∙ o.known; comparisons = omega (arith, o.count) }
 
   module _ {after : Bool} where
-    pub seek_starts : {at : Link} → Stands nodes at t → SeeksOn after order nodes s None t at 0
-    seek_starts h = record { rest = t; stands = h; known = or_none (seek after order t s); count = omega arith }
-
     module _ {at : Link} {comparisons : ℕ} (kept : Option (Entry K)) (w : SeeksOn after order nodes s kept t at comparisons) where
       pub seek_ends : at ≡ None → SoughtIn after order t s (record { answer = kept; comparisons = comparisons })
       seek_ends is =

@@ -70,9 +70,6 @@ module _ {K : Type 0} where
   absent nodes at tip s is = refl
   absent nodes at (fork i k v a b) s is = never (sym s.linked ∙ is)
 
-  pub nothing_stands : (nodes : List (Node K)) → Stands nodes None tip
-  nothing_stands nodes = record { lies = tt; linked = refl }
-
   reaches_root : (nodes : List (Node K)) (t : Avl K) → Lies nodes t → Reaches nodes (link_of t)
   reaches_root nodes tip h = tt
   reaches_root nodes (fork i k v a b) h = slice_get_within nodes i _ h.0

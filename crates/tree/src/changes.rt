@@ -64,10 +64,8 @@ fn new_leaf<K: OrderedKey>(
     requires { Spot nodes.old slot tip }
     ensures { GrownBy K.OrderedKey.order None slot nodes.old tip entry.now.key entry.now.ticket nodes.new result }
 {
-    match slot {
-        None => Err(Refusal::BookFull),
-        Some(s) => Ok(put(nodes, s, Node::bare(*entry))),
-    }
+    let slot = slot.ok_or(Refusal::BookFull)?;
+    Ok(put(nodes, slot, Node::bare(*entry)))
 }
 
 // Puts a node over a side that lost a pair, and in balance again. A take can make several nodes lean, so every node on
@@ -114,8 +112,7 @@ fn take_root<K: Copy>(nodes: &mut [Node<K>], i: u16, node: Node<K>) -> Cut<u32>
 {
     let out = node.entry.ticket;
     match (node.left, node.right) {
-        (None, top) => Cut { out, slot: i, top },
-        (top, None) => Cut { out, slot: i, top },
+        (None, top) | (top, None) => Cut { out, slot: i, top },
         (Some(_), Some(m)) => {
             let least = take_least(nodes, m);
             let heir = Node {

@@ -1,6 +1,6 @@
-use Rattle.std.proofs.Common.{◌≡◌, ℕ, List, ◌++◌, length, drop, replicate, ap, ◌∙◌, rules}
+use Rattle.std.proofs.Common.{◌≡◌, ℕ, List, ◌++◌, length, drop, replicate, ap, ◌∙◌}
 use borrow.Rule.Slice.PartMut.{put_mid}
-use Rattle.std.proofs.lemmas.List.{length-append, take_at, drop_at, append-nil}
+use Rattle.std.proofs.lemmas.List.{take_at, drop_at, append-nil}
 use Rattle.masks.proofs.tree_source.joined.Goals as goal
 
 filled_in : (first second : List ℕ) → length first ≡ 8 → put_mid 8 8 (first ++ replicate 8 0) second ≡ first ++ second
@@ -9,9 +9,6 @@ filled_in first second l =
     let front = take_at first zeros 8 l in
     let behind = ap (drop 8) (drop_at first zeros 8 l) in
     ap (λ xs. xs ++ (second ++ drop 8 (drop 8 (first ++ zeros)))) front ∙ ap (λ xs. first ++ (second ++ xs)) behind ∙ ap (λ xs. first ++ xs) (append-nil second)
-
-pub slice_bounds-whole-end-2 : goal.slice_bounds-whole-end-2
-slice_bounds-whole-end-2 c = simp length-append (search rules)
 
 pub returns : goal.returns
 returns c =

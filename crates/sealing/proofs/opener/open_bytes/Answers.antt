@@ -3,9 +3,9 @@ use Rattle.std.proofs.lemmas.Nat.{shl_whole}
 use Rattle.std.proofs.lemmas.Result.{err_from_is_err_and}
 use mir.Val.{bool_byte}
 use Rattle.digits.proofs.Bits.{bit_small}
-use Rattle.sealing.specs.Opened.{bytes_of, found_answer}
-use Rattle.sealing.proofs.Walking.{steps_on, never_refused}
-use Rattle.sealing.proofs.Unmasking.{nothing_opened, no_bit_behind, written_fits, one_more_opened, all_opened}
+use Rattle.sealing.specs.Opened.{found_answer}
+use Rattle.sealing.proofs.Walking.{steps_on}
+use Rattle.sealing.proofs.Unmasking.{nothing_opened, no_bit_behind, written_fits, one_more_opened}
 use Rattle.sealing.proofs.opener.open_bytes.Goals as goal
 use Rattle.sealing.proofs.opener.open_bytes.Goals.{then-i-end+in_ok-step, else-i-end}
 
@@ -27,13 +27,6 @@ returns-in_err-bit g c =
       left = rw none.0 tt;
       same_masks = c.loop-i.invariant.0;
     }
-
-pub returns-in_err-step : goal.returns-in_err-step
-returns-in_err-step g c =
-    let walked = g.S.MaskSource.walked c.loop-i.source in
-    let so_far = c.loop-i.invariant.1 in
-    let far : length walked ≡ c.loop-i.i = ap length (so_far.along c.loop-i-test.true) ∙ so_far.long in
-    absurd (never_refused walked (omega (arith, far, c.if-i-end.true, c.requires)) c.in_err-step.field-0.0 c.in_err-step.ensures.answer)
 
 pub overflow_add-key : goal.overflow_add-key
 overflow_add-key g c =
@@ -66,13 +59,3 @@ loop-i-preserved g c =
       | else-i-end w ↦
           (ap masks w.source-is ∙ c.loop-i.invariant.0, more (λ further. absurd (omega (arith, further, w.if-i-end.false))))
     ]
-
-pub returns : goal.returns
-returns g c =
-    let so_far = c.loop-i.invariant.1 in
-    let whole = all_opened (g.S.MaskSource.masks c.args.source.now) c.args.sealed.now (length c.args.key.now) c.loop-i.i _ c.loop-i.key so_far c.requires c.told-sealed c.loop-i-test.false in
-    record {
-      answer = sym (ap found_answer whole);
-      left = rw whole (so_far.written ∙ ap (λ n. bytes_of n so_far.found) (sym (c.loop-i.auto.key ∙ c.fill.ensures.len)));
-      same_masks = c.loop-i.invariant.0;
-    }

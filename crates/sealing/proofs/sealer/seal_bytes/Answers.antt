@@ -1,7 +1,7 @@
 use Rattle.std.proofs.Common.{◌%◌, Ok, ap, ◌∙◌, arith}
 use Rattle.digits.proofs.Packing.{trit_weight}
 use Rattle.sealing.specs.MaskingLemmas.{nothing_sealed, walked_long, next_fits, one_more_sealed, all_sealed}
-use Rattle.sealing.proofs.Walking.{steps_on, never_refused}
+use Rattle.sealing.proofs.Walking.{steps_on}
 use Rattle.sealing.proofs.sealer.seal_bytes.Goals as goal
 use Rattle.sealing.proofs.sealer.seal_bytes.Goals.{then-i-end+in_ok-step, else-i-end}
 
@@ -16,12 +16,6 @@ overflow_add-trits g c =
       next_fits _ c.args.key.now c.loop-i.i walked c.loop-i.trits c.loop-i.invariant.1 c.loop-i-test.true c.requires c.mask.result c.bit_at-bit.result _
           (c.mask.ensures ∙ ap (λ h. h walked) c.loop-i.invariant.0) c.bit_at-bit.ensures (trit_weight (c.loop-i.i % 5) (omega arith)),
     )
-
-pub returns-in_err-step : goal.returns-in_err-step
-returns-in_err-step g c =
-    let walked = g.S.MaskSource.walked c.loop-i.source in
-    let far = walked_long _ c.args.key.now c.loop-i.i walked c.loop-i.trits c.loop-i.invariant.1 c.loop-i-test.true in
-    absurd (never_refused walked (omega (arith, far, c.if-i-end.true, c.requires)) c.in_err-step.field-0.0 c.in_err-step.ensures.answer)
 
 pub loop-i-preserved : goal.loop-i-preserved
 loop-i-preserved g c =

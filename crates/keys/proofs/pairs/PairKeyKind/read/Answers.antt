@@ -1,14 +1,6 @@
 use Rattle.std.proofs.lemmas.Result.{err_from_is_err_and}
-use Rattle.keys.specs.PairKeys.{read_first_refused, read_second_refused, read_both}
+use Rattle.keys.specs.PairKeys.{read_second_refused, read_both}
 use Rattle.keys.proofs.pairs.PairKeyKind.read.Goals as goal
-
-pub returns-in_err-first : goal.returns-in_err-first
-returns-in_err-first g c =
-    let p = err_from_is_err_and c.from_residual-in_err-first.result c.from_residual-in_err-first.ensures.1 in
-    rw (p.1, p.2)
-    (read_first_refused g.A.KeyKind.width g.B.KeyKind.width c.width.result c.args.bytes.now c.width.ensures c.in_ok-ask_width.ensures
-    (λ a b. record { first = a; second = b }) g.A.KeyKind.decode g.B.KeyKind.decode
-    c.in_err-first.field-0.0 c.in_err-first.ensures)
 
 pub returns-in_err-second : goal.returns-in_err-second
 returns-in_err-second g c =

@@ -7,7 +7,7 @@ use Rattle.tree.proofs.Spots.{can_grow}
 use Rattle.tree.proofs.Steps.{Begun, begins}
 use Rattle.tree.proofs.Adding.{added_done, count_fits, not_added_done}
 use Rattle.tree.proofs.tree_books.TreeBook.add.Goals as goal
-use Rattle.tree.proofs.tree_books.TreeBook.add.Goals.{In_ok-start, In_ok-root}
+use Rattle.tree.proofs.tree_books.TreeBook.add.Goals.{In_ok-start}
 
 begun : (g : _) (c : In_ok-start g) → Begun g.K.OrderedKey.order (tree_step g.K.OrderedKey.order (model_of c.args.self.now.nodes.now c.args.self.now.state))
     c.start.new.self.nodes.now c.start.new.self.state (model_of c.start.new.self.nodes.now c.start.new.self.state)
