@@ -8,9 +8,6 @@ module _ {X : Type 0} (P : X → Type 0) where
   pub all_at : (xs : List X) (i : ℕ) (d : X) → i < length xs → AllByRecursion P xs → P (get_or xs i d)
   all_at xs i d h all = by_index P xs all i d h
 
-  pub all_from_places : (xs : List X) (d : X) → ((i : ℕ) → i < length xs → P (get_or xs i d)) → AllByRecursion P xs
-  all_from_places xs d h = by_recursion P xs (elements.All-from_get_or P xs d h)
-
   pub all_append : (xs ys : List X) → AllByRecursion P xs → AllByRecursion P ys → AllByRecursion P (xs ++ ys)
   all_append xs ys h k = by_recursion P (xs ++ ys) (All-append P xs ys (by_index P xs h) (by_index P ys k))
 

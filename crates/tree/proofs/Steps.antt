@@ -26,18 +26,6 @@ chain_still nodes after [] at same c = c
 chain_still nodes after (i ∷ free) at same c =
     (c.0, (c.1.0, (same.0 ∙ c.1.1.0, c.1.1.1, chain_still nodes after free c.1.0.left same.1 c.1.1.2)))
 
--- what stands soundly stands so whatever the count of comparisons
-counted_stands : {K : Type 0} {nodes : List (Node K)} {state : State} {m : TreeModel K} → StandsSoundly nodes state m → (n : ℕ) → Sound (counted n m) → StandsSoundly nodes (counted_state state n) (counted n m)
-counted_stands s n sound = record {
-  tree_stands = s.tree_stands;
-  free_stands = s.free_stands;
-  fresh_is = s.fresh_is;
-  room_is = s.room_is;
-  comparisons_is = refl;
-  held_is = s.held_is;
-  sound = sound;
-}
-
 -- what a step of a model answers, and that memory and numbers then mean the model that it leaves
 pub record CallDone {K : Type 0} (step : Answer K × TreeModel K) (answer : Answer K) (after : List (Node K)) (state : State) : Type 0 where
   pub answers : answer ≡ step.0
