@@ -1,13 +1,27 @@
--- Names: their fill, and reading them.
-use Rattle.std.specs.Prelude.{◌≡◌, ℕ, zero, suc, ◌+◌, ◌-◌, ◌≤◌, Bool, true, false, cond, not, ◌&&◌, ◌||◌, List, [], ◌∷◌, ◌++◌, length, drop, replicate, Some, None, Ok, Err, ◌==◌, nat_le, refl}
+-- Names: their fill, and the one proof that bytes are a name.
+use Rattle.std.specs.Prelude.{◌≡◌, ℕ, zero, suc, ◌+◌, ◌-◌, ◌≤◌, Bool, true, false, cond, not, ◌&&◌, ◌||◌, List, [], ◌∷◌, ◌++◌, length, take, drop, replicate, Some, Ok, Err, ◌==◌, nat_le, refl}
 use Rattle.std.specs.List.{list_any, position_or_len}
-use Rattle.std.proofs.Common.{sym, ap, ◌∙◌, subst, arith}
+use Rattle.std.proofs.Common.{sym, ap, ◌∙◌, arith}
+use Rattle.std.proofs.Math.Bool.{Bool-set}
+use mathlib.Core.HLevel.{is_prop→PathP}
 use Rattle.std.proofs.lemmas.List.{length-append, length-replicate, drop-replicate}
 use Rattle.std.proofs.lemmas.Bool.{and_parts, and_from, cond-true, eq-eqb, eqb-true, le-leb}
 use Rattle.digits.specs.Positional.{all_zero}
-use Rattle.keys.specs.Kinds.{Bytes}
-use Rattle.keys.specs.Names.{is_zero, fill, is_name, named, IsName, name_decoded}
-use Rattle.keys.specs.declared.refusals.Refusal.TheVariants.{NoValue}
+use Rattle.keys.specs.Kinds.{value_asked, read_answer}
+use Rattle.keys.specs.Names.{is_zero, fill, is_name, named, where_true}
+use Rattle.keys.specs.declared.refusals.Refusal.TheVariants.{ShortBuffer, NoValue}
+
+-- what is made of the bytes of a name does not depend on the proof that they are one
+pub same_name : {X : Type 0} (make : (bytes : List ℕ) → is_name bytes ≡ true → X) (a b : List ℕ) (p : is_name a ≡ true) (q : is_name b ≡ true) → a ≡ b → make a p ≡ make b q
+same_name make a b p q e = λ i. make (e i) (is_prop→PathP (λ j. is_name (e j) ≡ true) (λ j. Bool-set (is_name (e j)) true) p q i)
+
+pub where_true_some : {X : Type 0} (test : Bool) (make : test ≡ true → X) (e : test ≡ true) → where_true test make ≡ Some (make e)
+where_true_some true make e = ap (λ p. Some (make p)) (Bool-set true true refl e)
+where_true_some false make e = cc
+
+pub where_true_parts : {X : Type 0} (test : Bool) (make : test ≡ true → X) (x : X) → where_true test make ≡ Some x → (e : test ≡ true) × (make e ≡ x)
+where_true_parts true make x e = (refl, cc)
+where_true_parts false make x e = cc
 
 zeros_are : (n : ℕ) → all_zero (replicate n 0) ≡ true
 zeros_are zero = refl
@@ -43,13 +57,10 @@ module _ (text copied : List ℕ) (same : copied ≡ text) (fits : length text �
 pub name_length : (bytes : List ℕ) → is_name bytes ≡ true → length bytes ≡ 16
 name_length bytes e = eqb-true (length bytes) 16 (and_parts (length bytes == 16) (all_zero (fill bytes)) e).0
 
--- the bytes of a name are read as that name, and only those
-pub name_is_read : (bytes : List ℕ) → is_name bytes ≡ true → name_decoded bytes ≡ Some bytes
-name_is_read bytes e = cond-true (is_name bytes) (Some bytes) None e
-
-pub read_is_name : (key name : List ℕ) → Bytes key → name_decoded key ≡ Some name → IsName name × (name ≡ key)
-read_is_name key name small e = by_test (is_name key) refl e
-  where
-    by_test : (test : Bool) → is_name key ≡ test → cond test (Some key) None ≡ Some name → IsName name × (name ≡ key)
-    by_test true t e = let same : key ≡ name = cc in (subst IsName same (record { small = small; named = t }), sym same)
-    by_test false t e = cc
+-- a read of 16 bytes that are a name
+pub name_read : {X : Type 0} (make : (bytes : List ℕ) → is_name bytes ≡ true → X) (own bytes : List ℕ) (p : is_name own ≡ true) → 16 ≤ length bytes → own ≡ take 16 bytes → Ok (make own p) ≡ read_answer 16 (λ key. where_true (is_name key) (make key)) bytes
+name_read make own bytes p l e =
+    let q : is_name (take 16 bytes) ≡ true = sym (ap is_name e) ∙ p in
+    ap Ok (same_name make own (take 16 bytes) p q e)
+    ∙ ap value_asked (sym (where_true_some (is_name (take 16 bytes)) (make (take 16 bytes)) q))
+    ∙ sym (cond-true (nat_le 16 (length bytes)) (value_asked (where_true (is_name (take 16 bytes)) (make (take 16 bytes)))) (Err ShortBuffer) (le-leb 16 (length bytes) l))

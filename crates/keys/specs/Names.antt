@@ -1,8 +1,7 @@
 -- Names: up to 16 bytes, none of them zero, written filled up to 16 bytes with zeros.
-use Rattle.std.specs.Prelude.{◌≡◌, ℕ, ◌-◌, Bool, true, cond, not, ◌&&◌, List, ◌++◌, length, drop, replicate, Some, None, Ok, Option, Result, ◌==◌, nat_le}
+use Rattle.std.specs.Prelude.{◌≡◌, ℕ, ◌-◌, Bool, true, false, not, ◌&&◌, List, ◌++◌, length, drop, replicate, Some, None, Ok, Option, Result, ◌==◌, nat_le, refl}
 use Rattle.std.specs.List.{list_any, before_first, position_or_len}
 use Rattle.digits.specs.Positional.{all_zero}
-use Rattle.keys.specs.Kinds.{Bytes}
 use Rattle.keys.specs.Refusals.{asked}
 use Rattle.keys.specs.declared.refusals.Refusal.{Refusal}
 use Rattle.keys.specs.declared.refusals.Refusal.TheVariants.{NoValue}
@@ -26,11 +25,7 @@ is_name bytes = length bytes == 16 && all_zero (fill bytes)
 abbrev pub named : List ℕ → Result (List ℕ) Refusal
 named text = asked (nat_le (length text) 16 && not (list_any is_zero text)) NoValue (Ok (text ++ replicate (16 - length text) 0))
 
--- bytes that are a name
-pub record IsName (bytes : List ℕ) : Type 0 where
-  pub small : Bytes bytes
-  pub named : is_name bytes ≡ true
-
--- the name of key bytes
-abbrev pub name_decoded : List ℕ → Option (List ℕ)
-name_decoded key = cond (is_name key) (Some key) None
+-- what a test that came out true makes, if it did
+abbrev pub where_true : {X : Type 0} → (test : Bool) → (test ≡ true → X) → Option X
+where_true true make = Some (make refl)
+where_true false make = None

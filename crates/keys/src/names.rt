@@ -1,38 +1,29 @@
-ghost use Rattle.std.specs.Prelude.{◌≡◌, ℕ, List, true, position};
-ghost use Rattle.std.proofs.Common.{rules};
+ghost use Rattle.std.specs.Prelude.{◌≡◌, true, position};
+ghost use Rattle.std.specs.Result.{result_map_both};
+ghost use Rattle.std.proofs.Common.{sym, ap, subst, rules};
 ghost use Rattle.digits.specs.Orders.{row_order};
 ghost use Rattle.digits.specs.Positional.{all_zero};
-ghost use Rattle.keys.specs.Names.{IsName, is_name, is_zero, named, unfilled, fill, name_decoded};
+ghost use Rattle.keys.specs.Kinds.{Bytes};
+ghost use Rattle.keys.specs.Names.{is_name, is_zero, named, unfilled, fill, where_true};
 ghost use Rattle.std.proofs.lemmas.Cmp.{nat_list_cmp_total};
 ghost use Rattle.std.specs.FinMap.{nat_cmp-IsAntisymmetric, slice_cmp-IsAntisymmetric};
-ghost use Rattle.keys.specs.NameKeys.{name_length, name_is_read, read_is_name};
+ghost use Rattle.keys.specs.NameKeys.{name_length, same_name, where_true_some, where_true_parts};
 
 use crate::kinds::write_front;
 use crate::{KeyKind, OrderedKey, Refusal, are_bytes};
 use std::cmp::Ordering;
-use std::marker::Model;
 
 /// A name of up to 16 bytes, none of them zero, filled up with zeros.
 #[derive(Clone, Copy, PartialEq, Eq)]
 pub struct Name {
     bytes: [u8; 16],
-}
-
-// A name stands for its 16 key bytes.
-impl Model for Name {
-    ghost Value = { List ℕ };
-
-    ghost view = { λ n. n.bytes };
-
-    ghost inverse = { λ bytes. record { bytes = bytes } };
-
-    ghost invariant = { λ n. is_name n.bytes ≡ true };
+    ghost ok: { is_name bytes ≡ true },
 }
 
 impl Name {
     /// The name of these bytes.
     pub fn new(text: &[u8]) -> Result<Name, Refusal>
-        ensures { result ≡ named text.now }
+        ensures { result_map_both (λ n. n.bytes) (λ refusal. refusal) result ≡ named text.now }
     {
         if text.len() > 16 || text.contains(&0) {
             return Err(Refusal::NoValue);
@@ -44,7 +35,7 @@ impl Name {
 
     /// The bytes without the fill.
     pub fn text(&self) -> &[u8]
-        ensures { result.now ≡ unfilled self.now }
+        ensures { result.now ≡ unfilled self.now.bytes }
     {
         split_fill(&self.bytes).0
     }
@@ -72,19 +63,19 @@ fn split_fill(bytes: &[u8]) -> (&[u8], &[u8])
 }
 
 impl OrderedKey for Name {
-    ghost order = { row_order };
+    ghost order = { λ m n. row_order m.bytes n.bytes };
 
-    ghost lawful = { IsName };
+    ghost lawful = { λ n. Bytes n.bytes };
 
     ghost Index = { Unit {0} };
 
-    ghost family = { λ _ n. IsName n };
+    ghost family = { λ _ n. Bytes n.bytes };
 
-    ghost flips = { λ i a b f f'. nat_list_cmp_total.antisymm a b };
+    ghost flips = { λ i a b f f'. nat_list_cmp_total.antisymm a.bytes b.bytes };
 
-    ghost chains = { λ i a b c f f' f'' p q. nat_list_cmp_total.trans a b c p q };
+    ghost chains = { λ i a b c f f' f'' p q. nat_list_cmp_total.trans a.bytes b.bytes c.bytes p q };
 
-    ghost same = { λ i a b f f' e. slice_cmp-IsAntisymmetric nat_cmp-IsAntisymmetric a b e };
+    ghost same = { λ i a b f f' e. same_name (λ bytes ok. record { bytes = bytes; ok = ok }) a.bytes b.bytes a.ok b.ok (slice_cmp-IsAntisymmetric nat_cmp-IsAntisymmetric a.bytes b.bytes e) };
 
     fn compare(&self, other: &Name) -> Ordering {
         self.bytes.cmp(&other.bytes)
@@ -98,19 +89,22 @@ impl OrderedKey for Name {
 impl KeyKind for Name {
     ghost width = { 16 };
 
-    ghost encode = { λ n. n };
+    ghost encode = { λ n. n.bytes };
 
-    ghost decode = { name_decoded };
+    ghost decode = { λ key. where_true (is_name key) (λ e. record { bytes = key; ok = e }) };
 
-    ghost wide = { λ v h s. name_length v h.named };
+    ghost wide = { λ v h s. name_length v.bytes v.ok };
 
-    ghost bytes = { λ v h s. h.small };
+    ghost bytes = { λ v h s. h };
 
     ghost ordered = { Prim.search rules };
 
-    ghost reads = { λ v h s. name_is_read v h.named };
+    ghost reads = { λ v h s. where_true_some (is_name v.bytes) (λ e. record { bytes = v.bytes; ok = e }) v.ok };
 
-    ghost writes = { λ key v small s e. read_is_name key v small e };
+    ghost writes = { λ key v small s e.
+        let p = where_true_parts (is_name key) (λ ok. record { bytes = key; ok = ok }) v e in
+        let same = ap (λ n. n.bytes) p.1 in
+        (subst Bytes same small, sym same) };
 
     ghost gathers = { Prim.search rules };
 

@@ -180,11 +180,15 @@ impl<S: MaskSource> Sealer<S> {
             .map(|value| self.seal(value).map_err(Trouble::from))
             .try_collect(heap)?;
         let ordered = in_order(heap, keys.as_slice())?;
-        let opened: Vec<String> = ordered
-            .iter()
-            .map(|key| self.open_word::<K>(key))
-            .try_collect(heap)?;
-        Ok(opened.join(heap, " ")?)
+        // each word is appended as it is opened, so that only one is held beside the row
+        let mut row = String::new(heap);
+        for (i, key) in ordered.iter().enumerate() {
+            if i > 0 {
+                row.push(' ')?;
+            }
+            row.push_str(self.open_word::<K>(key)?.as_str())?;
+        }
+        Ok(row)
     }
 }
 
