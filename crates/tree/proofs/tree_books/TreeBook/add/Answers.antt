@@ -2,7 +2,7 @@ use Rattle.std.proofs.Common.{arith}
 use Rattle.std.proofs.lemmas.Result.{err_from_is_err_and}
 use Rattle.avl.specs.Model.{tree_step}
 use Rattle.tree.specs.States.{model_of}
-use Rattle.tree.proofs.Soundness.{stands_from_test}
+use Rattle.tree.proofs.Soundness.{sound_counted, stands_from_test}
 use Rattle.tree.proofs.Spots.{can_grow}
 use Rattle.tree.proofs.Steps.{Begun, begins}
 use Rattle.tree.proofs.Adding.{added_done, count_fits, not_added_done}
@@ -24,7 +24,7 @@ overflow_add-self g c =
 pub invariant_of-self : goal.invariant_of-self
 invariant_of-self g c =
     let done = not_added_done (begun g (goal.at.invariant_of-self g c).In_ok-start) c.next_spot-spot.ensures c.insert-grown.auto.nodes c.insert-grown.ensures c.in_err-root.was in
-    record { ok = done.leaves.sound }
+    record { ok = sound_counted _ _ _ done.leaves.sound }
 
 pub invariant_of-self-2 : goal.invariant_of-self-2
 invariant_of-self-2 g c =
